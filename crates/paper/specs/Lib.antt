@@ -1,0 +1,3 @@
+-- Document 01, a file to each part, in the paper's order.
+pub mod Forms
+pub mod Clock
