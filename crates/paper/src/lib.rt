@@ -12,3 +12,94 @@ pub enum Field {
     Good(i64),
     Bad,
 }
+
+// The standing of an event type.
+pub enum Standing {
+    Listed,
+    Message,
+    NotHandled,
+    Unlisted,
+}
+
+// Why something is refused: a case for each row of the paper's table of numbers, from 1 to 16.
+pub enum Fault {
+    BadChoice,
+    WrongLength,
+    HighLatency,
+    LongTrace,
+    Form,
+    Stamp,
+    Unlisted,
+    NotHandled,
+    Place,
+    NoMessage,
+    Backwards,
+    TooMany,
+    NoSend,
+    OtherLength,
+    NoTimes,
+    NoRoom,
+}
+
+// The six fields that every record begins with.
+pub struct Head {
+    pub kind: i64,
+    pub event: i64,
+    pub time: i64,
+    pub processor: i64,
+    pub process: i64,
+    pub count: usize,
+}
+
+// The three data of a send or of a receive. The peer is a send's destination and a receive's source.
+pub struct Message {
+    pub length: u64,
+    pub tag: i64,
+    pub peer: usize,
+}
+
+// What a listed record is among the messages.
+pub enum Role {
+    Neither,
+    Send(Message),
+    Receive(Message),
+}
+
+// A listed record.
+pub struct Record {
+    pub time: i64,
+    pub processor: usize,
+    pub role: Role,
+}
+
+// A listed record with its line in the file.
+pub struct Entry {
+    pub line: usize,
+    pub record: Record,
+}
+
+// What a line comes to.
+pub enum Line {
+    Refused(Fault),
+    Passed,
+    Listed(Record),
+}
+
+// Where a reading ends: at the end of what there is, or at the line that is refused.
+pub enum Stop {
+    End,
+    At(Fault, usize),
+}
+
+// What the caller gets back, in the order of the report.
+pub struct Answer {
+    pub number: u64,
+    pub line: u64,
+    pub verdict: u64,
+    pub listed: u64,
+    pub passed: u64,
+    pub matched: u64,
+    pub unreceived: u64,
+    pub rounds: u64,
+    pub written: u64,
+}

@@ -1,0 +1,38 @@
+-- Document 01, "Numbers a caller gets back": the table's first column.
+use Prim.Native.Nat.{ℕ}
+use Rattle.paper.specs.declared.Fault.{Fault}
+use Rattle.paper.specs.declared.Fault.the-variants as Fault
+
+unfoldable pub numberOf : Fault → ℕ
+-- "choice is neither 1 (strict) nor 2 (lenient)"
+numberOf Fault.BadChoice = 1
+-- "table or times of the wrong length"
+numberOf Fault.WrongLength = 2
+-- "a latency above 1,000,000"
+numberOf Fault.HighLatency = 3
+-- "trace above 65,536 bytes"
+numberOf Fault.LongTrace = 4
+-- "form of a line or of any field but the timestamp (bad data too)"
+numberOf Fault.Form = 5
+-- "form of the timestamp"
+numberOf Fault.Stamp = 6
+-- "unlisted, under strict"
+numberOf Fault.Unlisted = 7
+-- "message event not handled"
+numberOf Fault.NotHandled = 8
+-- "listed record: processor outside 0 to 63 or process not 0"
+numberOf Fault.Place = 9
+-- "a send or receive without its three good data"
+numberOf Fault.NoMessage = 10
+-- "time below the last listed time of the same processor"
+numberOf Fault.Backwards = 11
+-- "listed record number 2,049"
+numberOf Fault.TooMany = 12
+-- "receive without a matching send"
+numberOf Fault.NoSend = 13
+-- "its length differs from the send's"
+numberOf Fault.OtherLength = 14
+-- "no times exist"
+numberOf Fault.NoTimes = 15
+-- "written trace longer than the room lent"
+numberOf Fault.NoRoom = 16
