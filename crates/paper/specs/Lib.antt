@@ -1,5 +1,12 @@
--- Document 01, a file to each part, in the paper's order.
+-- Document 01 as definitions, a file to each part. `Answer` is the whole, from a call's inputs to its outcome; the others stand in
+-- the order in which that reads them.
+pub mod Tests
+pub mod Numbers
 pub mod Forms
 pub mod Events
-pub mod Numbers
+pub mod Line
+pub mod Reading
+pub mod Matching
 pub mod Clock
+pub mod Written
+pub mod Answer

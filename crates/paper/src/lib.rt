@@ -75,7 +75,7 @@ pub struct Record {
 // A listed record with its line in the file.
 pub struct Entry {
     pub line: usize,
-    pub record: Record,
+    pub body: Record,
 }
 
 // What a line comes to.

@@ -1,0 +1,16 @@
+-- Tests on signed numbers that the paper's words need.
+use Prim.Native.Nat.{ℕ}
+use mathlib.Core.Bool.{Bool, true, false, _&&_}
+use lib.IntN.{ℤ, pos, negsuc}
+use lib.Signed.{leZ}
+use lib.Dec.{eqb}
+
+abbrev pub eqZ : ℤ → ℤ → Bool
+eqZ (pos a) (pos b) = eqb a b
+eqZ (pos a) (negsuc b) = false
+eqZ (negsuc a) (pos b) = false
+eqZ (negsuc a) (negsuc b) = eqb a b
+
+-- "0 to n"
+abbrev pub upTo : ℕ → ℤ → Bool
+upTo n z = leZ (pos 0) z && leZ z (pos n)
