@@ -10,15 +10,15 @@ use Rattle.paper.specs.declared.Line.{Line}
 use Rattle.paper.specs.declared.Line.the-variants.{Refused, Passed, Listed}
 
 -- a line with its third field, the timestamp, replaced
-unfoldable pub restamped : ℤ → List ℕ → List ℕ
-restamped t l = field l ++ (32 ∷ field (after l) ++ (32 ∷ timeShown t ++ (32 ∷ after (after (after l)))))
+unfoldable pub withStamp : List ℕ → List ℕ → List ℕ
+withStamp s l = field l ++ (32 ∷ field (after l) ++ (32 ∷ s ++ (32 ∷ after (after (after l)))))
 
 -- a line written, and then the lines after it with the times that are left: each listed line takes one time
 unfoldable pub writeLine : Line → List ℕ → List ℤ → (List ℤ → List ℕ) → List ℕ
 writeLine (Refused fault) l times more = l ++ (10 ∷ more times)
 writeLine Passed l times more = l ++ (10 ∷ more times)
 writeLine (Listed r) l [] more = l ++ (10 ∷ more [])
-writeLine (Listed r) l (t ∷ times) more = restamped t l ++ (10 ∷ more times)
+writeLine (Listed r) l (t ∷ times) more = withStamp (timeShown t) l ++ (10 ∷ more times)
 
 unfoldable pub writtenFrom : Choice → Lines → List ℤ → List ℕ
 writtenFrom choice done times = []

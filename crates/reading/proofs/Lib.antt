@@ -1,0 +1,4 @@
+pub mod Fields
+pub mod Stamp
+pub mod Lines
+pub mod Joined

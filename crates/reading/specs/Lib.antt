@@ -1,0 +1,3 @@
+pub mod Free
+pub mod Retimed
+pub mod Joined
