@@ -1,0 +1,6 @@
+-- The laws of the forms, over plain lists and numbers, for this crate and for those above it.
+pub mod Machine
+pub mod Runs
+pub mod Signs
+pub mod Wholes
+pub mod Times

@@ -1,0 +1,83 @@
+-- The loop's invariant: what is left of s, read behind the sum, gives the whole answer; and the sum has nine digits and i at most.
+use Prim.Native.Nat.{ℕ, _+_, _-_, _^_, _≤_, _<_}
+use mathlib.Core.Path.{_≡_, refl, ap, sym, _∙_}
+use native.Mathlib.Nat.{add-assoc}
+use native.Mathlib.Omega.{arith}
+use borrow.Author.Needs.{needs}
+use lib.ListN.{length, drop, drop-of-length-le}
+use Rattle.paper.specs.Forms.{digitsFrom}
+use Rattle.form.specs.Sizes.{number}
+use Rattle.form.proofs.Runs.{cap, grows, too-low, too-high, good}
+use Rattle.form.proofs.read.read_digits.Statement.{statement}
+use Rattle.form.proofs.read.read_digits.Tie as tie
+
+abbrev Inv-loop : tie.InvT-loop
+Inv-loop s v sum₀ i₀ sum i = (i ≤ length s) × (sum < 10 ^ (9 + i)) × (digitsFrom v s ≡ digitsFrom sum (drop i s))
+
+abbrev μ-loop : tie.MeasureT-loop
+μ-loop s v sum₀ i₀ sum i = length s - i
+
+loop-holds : tie.Need-loop-holds Inv-loop μ-loop
+loop-holds c = (search needs, search needs, refl)
+
+shared-slice-read-wide : tie.Need-shared-slice-read-wide Inv-loop μ-loop
+shared-slice-read-wide c = search needs
+
+wide-requires : tie.Need-wide-requires Inv-loop μ-loop
+wide-requires c κs = search needs
+
+returns : tie.Need-returns Inv-loop μ-loop
+unfolding number
+returns c =
+    let l = c .before .before .before .before .loop in
+    sym (l .inv .2 ∙ too-low _ (l .i) (l .sum) _ (search needs) (c .before .wide .ensures) (c .if1 .taken))
+
+returns-2 : tie.Need-returns-2 Inv-loop μ-loop
+unfolding number
+returns-2 c =
+    let l = c .before .before .before .before .before .loop in
+    sym (l .inv .2 ∙ too-high _ (l .i) (l .sum) _ (search needs) (c .before .before .wide .ensures) (c .before .if1 .left) (c .if2 .taken))
+
+mul-sum : tie.Need-mul-sum Inv-loop μ-loop
+mul-sum c = let l = c .before .before .before .before .before .loop in omega (arith, cap (9 + l .i) 17 (omega arith))
+
+add-sum : tie.Need-add-sum Inv-loop μ-loop
+add-sum c = let l = c .before .before .before .before .before .loop in omega (arith, cap (9 + l .i) 17 (omega arith))
+
+add-i : tie.Need-add-i Inv-loop μ-loop
+add-i c = search needs
+
+loop-less : tie.Need-loop-less Inv-loop μ-loop
+loop-less c = search needs
+
+loop-again : tie.Need-loop-again Inv-loop μ-loop
+loop-again c =
+    let l = c .before .before .before .before .before .loop in (
+      search needs,
+      rw (← add-assoc) (grows (9 + l .i) (l .sum) _ (l .inv .1) (omega arith)),
+      l .inv .2 ∙ good _ (l .i) (l .sum) _ (search needs) (c .before .before .wide .ensures) (c .before .if1 .left) (c .if2 .left),
+    )
+
+returns-3 : tie.Need-returns-3 Inv-loop μ-loop
+unfolding number digitsFrom
+returns-3 c =
+    let l = c .before .loop in
+    sym (l .inv .2 ∙ ap (digitsFrom (l .sum)) (drop-of-length-le _ (c .loop-test .left)))
+
+pub read-digits-spec : {M : Type 1} → statement M
+read-digits-spec =
+    tie.close
+    (tie.spec
+    Inv-loop
+    μ-loop
+    loop-holds
+    shared-slice-read-wide
+    wide-requires
+    returns
+    returns-2
+    mul-sum
+    add-sum
+    add-i
+    loop-less
+    loop-again
+    returns-3)

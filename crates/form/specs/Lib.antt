@@ -1,0 +1,2 @@
+-- What the contracts of this crate say beyond the forms of document 01.
+pub mod Sizes
