@@ -20,6 +20,10 @@ use Rattle.paper.specs.declared.Standing.the-variants as Standing
 use Rattle.paper.specs.declared.Fault.{Fault}
 use Rattle.paper.specs.declared.Fault.the-variants as Fault
 use Rattle.paper.specs.declared.Head.{Head}
+use Rattle.paper.specs.declared.Data.{Data}
+use Rattle.paper.specs.declared.Data.the-variants.{Malformed, Three, Others}
+use Rattle.paper.specs.declared.Part.{Part}
+use Rattle.paper.specs.declared.Part.the-variants as Part
 use Rattle.paper.specs.declared.Role.{Role}
 use Rattle.paper.specs.declared.Role.the-variants.{Neither, Send, Receive}
 use Rattle.paper.specs.declared.Message.{Message}
@@ -128,33 +132,33 @@ valuesOf form zero none = some []
 valuesOf form zero (some l) = none
 valuesOf form (suc n) fields = onFirst (firstOf form fields) none (λ v fields₁. pushed v (valuesOf form n fields₁))
 
--- what the data are: of no good form, or as the descriptor says
-pub data Data : Type 0 where
-  malformed : Data
-  wholes : List ℤ → Data
-  others : Data
-
+-- data under descriptor 2
 unfoldable pub asWholes : Option (List ℤ) → Data
-asWholes none = malformed
-asWholes (some vs) = wholes vs
+asWholes none = Malformed
+asWholes (some []) = Others
+asWholes (some (a ∷ [])) = Others
+asWholes (some (a ∷ b ∷ [])) = Others
+asWholes (some (a ∷ b ∷ c ∷ [])) = Three a b c
+asWholes (some (a ∷ b ∷ c ∷ d ∷ more)) = Others
 
+-- data under descriptor 5, or none at all
 unfoldable pub asOthers : Option (List ℤ) → Data
-asOthers none = malformed
-asOthers (some vs) = others
+asOthers none = Malformed
+asOthers (some vs) = Others
 
 -- "Descriptor in a listed record: 2 (each datum a whole number) or 5 (each datum in the form of a time). The data are exactly as
 -- many as stated."
 unfoldable pub described : ℕ → ℤ → Option (List ℕ) → Data
 described n descriptor fields =
     cond (eqZ descriptor (pos 2)) (asWholes (valuesOf wholeOf n fields))
-    (cond (eqZ descriptor (pos 5)) (asOthers (valuesOf timeOf n fields)) malformed)
+    (cond (eqZ descriptor (pos 5)) (asOthers (valuesOf timeOf n fields)) Malformed)
 
 -- "only if that number is above zero, a descriptor and the data", "in a listed record at most 16"
 unfoldable pub dataOf : ℕ → Option (List ℕ) → Data
 dataOf zero fields = asOthers (valuesOf wholeOf zero fields)
 dataOf (suc n) fields =
-    cond (leb (suc n) 16) (onFirst (firstOf wholeOf fields) malformed (λ descriptor fields₁. described (suc n) descriptor fields₁))
-    malformed
+    cond (leb (suc n) 16) (onFirst (firstOf wholeOf fields) Malformed (λ descriptor fields₁. described (suc n) descriptor fields₁))
+    Malformed
 
 -- ---- a listed line
 
@@ -162,27 +166,19 @@ dataOf (suc n) fields =
 unfoldable pub placed : ℤ → ℤ → Option ℕ
 placed processor process = cond (upTo 63 processor && eqZ process (pos 0)) (some (natAbs processor)) none
 
--- what a record is by its record type and event type
-pub data Part : Type 0 where
-  neither sends receives : Part
-
 -- "A send is an entry record of -21 .. A receive is an exit record of -51 or -52"
 unfoldable pub partOf : ℤ → ℤ → Part
 partOf kind event =
-    cond (eqZ kind (negsuc 2) && eqZ event (negsuc 20)) sends
-    (cond (eqZ kind (negsuc 3) && (eqZ event (negsuc 50) || eqZ event (negsuc 51))) receives neither)
+    cond (eqZ kind (negsuc 2) && eqZ event (negsuc 20)) Part.Sends
+    (cond (eqZ kind (negsuc 3) && (eqZ event (negsuc 50) || eqZ event (negsuc 51))) Part.Receives Part.Neither)
 
 -- "its three data under descriptor 2 are length, message type, destination [source]. .. Length is 0 or more; the named
 -- processor is 0 to 63."
 unfoldable pub messageOf : Data → Option Message
-messageOf (wholes (length ∷ tag ∷ peer ∷ [])) =
+messageOf Malformed = none
+messageOf (Three length tag peer) =
     cond (leZ (pos 0) length && upTo 63 peer) (some (record { length = natAbs length; tag = tag; peer = natAbs peer })) none
-messageOf (wholes []) = none
-messageOf (wholes (a ∷ [])) = none
-messageOf (wholes (a ∷ b ∷ [])) = none
-messageOf (wholes (a ∷ b ∷ c ∷ d ∷ more)) = none
-messageOf malformed = none
-messageOf others = none
+messageOf Others = none
 
 abbrev pub named : (Message → Role) → Option Message → Option Role
 named role none = none
@@ -190,9 +186,9 @@ named role (some m) = some (role m)
 
 -- none for "a send or receive without its three good data"
 unfoldable pub roleOf : Part → Data → Option Role
-roleOf neither d = some Neither
-roleOf sends d = named Send (messageOf d)
-roleOf receives d = named Receive (messageOf d)
+roleOf Part.Neither d = some Neither
+roleOf Part.Sends d = named Send (messageOf d)
+roleOf Part.Receives d = named Receive (messageOf d)
 
 unfoldable pub withRole : ℤ → ℕ → Option Role → Line
 withRole time processor none = Refused Fault.NoMessage
@@ -200,9 +196,9 @@ withRole time processor (some role) = Listed (record { time = time; processor = 
 
 -- "data (5), 10"
 unfoldable pub withData : ℤ → ℕ → Part → Data → Line
-withData time processor part malformed = Refused Fault.Form
-withData time processor part (wholes vs) = withRole time processor (roleOf part (wholes vs))
-withData time processor part others = withRole time processor (roleOf part others)
+withData time processor part Malformed = Refused Fault.Form
+withData time processor part (Three a b c) = withRole time processor (roleOf part (Three a b c))
+withData time processor part Others = withRole time processor (roleOf part Others)
 
 -- "then 9"
 unfoldable pub onPlace : Head → Option (List ℕ) → Option ℕ → Line

@@ -51,6 +51,20 @@ pub struct Head {
     pub count: usize,
 }
 
+// The data of a listed record, as far as anything depends on them: badly formed, three whole numbers, or anything else.
+pub enum Data {
+    Malformed,
+    Three(i64, i64, i64),
+    Others,
+}
+
+// What a record is by its record type and event type.
+pub enum Part {
+    Neither,
+    Sends,
+    Receives,
+}
+
 // The three data of a send or of a receive. The peer is a send's destination and a receive's source.
 pub struct Message {
     pub length: u64,

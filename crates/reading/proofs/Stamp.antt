@@ -8,11 +8,13 @@ use native.Mathlib.Omega.{arith}
 use lib.IntN.{ℤ}
 use Rattle.paper.specs.Forms.{wholeOf, timeOf}
 use Rattle.paper.specs.Events.{listedKind, standingOf}
-use Rattle.paper.specs.Line.{field, after, goesOn, rest, fieldsAbove, First, nothing, first, onField, onFirst, firstOf, countOf, Begun, bad, six, placeOf, sixOf, headOf, Data, malformed, wholes, others, dataOf, placed, partOf, roleOf, withRole, withData, onPlace, listedLine, goodEnd, stepOver, unlisted, sorted, begun, lineOf}
+use Rattle.paper.specs.Line.{field, after, goesOn, rest, fieldsAbove, First, nothing, first, onField, onFirst, firstOf, countOf, Begun, bad, six, placeOf, sixOf, headOf, dataOf, placed, partOf, roleOf, withRole, withData, onPlace, listedLine, goodEnd, stepOver, unlisted, sorted, begun, lineOf}
 use Rattle.paper.specs.Written.{withStamp}
 use Rattle.paper.specs.declared.Choice.{Choice}
 use Rattle.paper.specs.declared.Choice.the-variants as Choice
 use Rattle.paper.specs.declared.Head.{Head}
+use Rattle.paper.specs.declared.Data.{Data}
+use Rattle.paper.specs.declared.Data.the-variants.{Malformed, Three, Others}
 use Rattle.paper.specs.declared.Role.{Role}
 use Rattle.paper.specs.declared.Record.{Record}
 use Rattle.paper.specs.declared.Field.{Field}
@@ -36,9 +38,9 @@ role-at t t₀ p (some role) = refl
 
 data-at : (t t₀ : ℤ) (p : ℕ) (h : Head) (d : Data) → withData t p (partOf (h .kind) (h .event)) d ≡ lineAt t (withData t₀ p (partOf (h .kind) (h .event)) d)
 unfolding withData lineAt
-data-at t t₀ p h malformed = refl
-data-at t t₀ p h (wholes vs) = role-at t t₀ p _
-data-at t t₀ p h others = role-at t t₀ p _
+data-at t t₀ p h Malformed = refl
+data-at t t₀ p h (Three a b c) = role-at t t₀ p _
+data-at t t₀ p h Others = role-at t t₀ p _
 
 place-at : (t : ℤ) (h : Head) (fields : Option (List ℕ)) (o : Option ℕ) → onPlace (headAt t h) fields o ≡ lineAt t (onPlace h fields o)
 unfolding onPlace lineAt
