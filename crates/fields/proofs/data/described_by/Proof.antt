@@ -1,0 +1,43 @@
+-- `fields::data::described_by` meets its contract.
+use borrow.Author.Needs.{needs}
+use mathlib.Core.Path.{_≡_, sym, _∙_}
+use Rattle.fields.specs.Cursor.{readAs}
+use Rattle.fields.proofs.Datas.{under-two, under-five, under-none}
+use mir.Facts.{toZ-ofZ}
+use Rattle.fields.proofs.data.described_by.Statement.{statement}
+use Rattle.fields.proofs.data.described_by.Tie as tie
+
+same-requires : tie.Need-same-requires
+same-requires c κs = search needs
+
+wholes-requires : tie.Need-wholes-requires
+wholes-requires c κs = search needs
+
+returns : tie.Need-returns
+unfolding readAs
+returns c = c .wholes .ensures ∙ under-two _ _ (toZ-ofZ (c .before .before .before .before .fits .descriptor)) (sym (c .before .before .same .ensures) ∙ c .before .if1 .taken)
+
+same-requires-2 : tie.Need-same-requires-2
+same-requires-2 c κs = search needs
+
+others-requires : tie.Need-others-requires
+others-requires c κs = search needs
+
+returns-2 : tie.Need-returns-2
+unfolding readAs
+returns-2 c = c .others .ensures ∙ under-five _ _ (toZ-ofZ (c .before .before .before .before .before .before .fits .descriptor)) (sym (c .before .before .before .before .same .ensures) ∙ c .before .before .before .if1 .left) (sym (c .before .before .same2 .ensures) ∙ c .before .if2 .taken)
+
+returns-3 : tie.Need-returns-3
+returns-3 c = under-none _ _ (toZ-ofZ (c .before .before .before .before .before .fits .descriptor)) (sym (c .before .before .before .same .ensures) ∙ c .before .before .if1 .left) (sym (c .before .same2 .ensures) ∙ c .if2 .left)
+
+pub described-by-spec : {M : Type 1} → statement M
+described-by-spec =
+    tie.close
+    (tie.spec
+    same-requires
+    wholes-requires
+    returns
+    same-requires-2
+    others-requires
+    returns-2
+    returns-3)

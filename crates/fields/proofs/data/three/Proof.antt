@@ -1,0 +1,75 @@
+-- `fields::data::three` meets its contract.
+use borrow.Author.Needs.{needs}
+use mathlib.Core.Path.{_≡_, refl, sym, ap, _∙_}
+use Rattle.paper.specs.Line.{valuesOf, asWholes}
+use Rattle.fields.specs.Cursor.{readAs}
+use Rattle.fields.proofs.Cursors.{got, not-got, past, inside}
+use Rattle.fields.proofs.Datas.{three-made}
+use Rattle.fields.proofs.data.three.Statement.{statement}
+use Rattle.fields.proofs.data.three.Tie as tie
+
+value-at-requires : tie.Need-value-at-requires
+value-at-requires c κs = search needs
+
+enum-known-a : tie.Need-enum-known-a
+enum-known-a c = search needs
+
+enum-told : tie.Need-enum-told
+enum-told c = search needs
+
+returns : tie.Need-returns
+unfolding asWholes valuesOf readAs
+returns c = rw (not-got _ _ _ (c .before .before .value-at .ensures) (c .enum-told .given .1))
+
+value-at-requires-2 : tie.Need-value-at-requires-2
+value-at-requires-2 c κs = search needs
+
+enum-known-b : tie.Need-enum-known-b
+enum-known-b c = search needs
+
+enum-told-2 : tie.Need-enum-told-2
+enum-told-2 c = search needs
+
+returns-2 : tie.Need-returns-2
+unfolding asWholes valuesOf readAs
+returns-2 c = rw (got _ _ _ (c .before .before .before .before .before .before .value-at .ensures) _ _ (c .before .before .before .before .a .given .1), not-got _ _ _ (c .before .before .value-at2 .ensures) (c .enum-told2 .given .1))
+
+value-at-requires-3 : tie.Need-value-at-requires-3
+value-at-requires-3 c κs = search needs
+
+enum-known-c : tie.Need-enum-known-c
+enum-known-c c = search needs
+
+enum-told-3 : tie.Need-enum-told-3
+enum-told-3 c = search needs
+
+returns-3 : tie.Need-returns-3
+unfolding asWholes valuesOf readAs
+returns-3 c = rw (got _ _ _ (c .before .before .before .before .before .before .before .before .before .before .value-at .ensures) _ _ (c .before .before .before .before .before .before .before .before .a .given .1), got _ _ _ (c .before .before .before .before .before .before .value-at2 .ensures) _ _ (c .before .before .before .before .b .given .1), not-got _ _ _ (c .before .before .value-at3 .ensures) (c .enum-told3 .given .1))
+
+returns-4 : tie.Need-returns-4
+unfolding asWholes valuesOf readAs
+returns-4 c = rw (got _ _ _ (c .before .before .before .before .before .before .before .before .before .before .before .before .value-at .ensures) _ _ (c .before .before .before .before .before .before .before .before .before .before .a .given .1), got _ _ _ (c .before .before .before .before .before .before .before .before .value-at2 .ensures) _ _ (c .before .before .before .before .before .before .b .given .1), got _ _ _ (c .before .before .before .before .value-at3 .ensures) _ _ (c .before .before .c .given .1), past _ _ (c .if1 .taken)) (three-made (search needs) (search needs) (search needs))
+
+returns-5 : tie.Need-returns-5
+unfolding asWholes valuesOf readAs
+returns-5 c = rw (got _ _ _ (c .before .before .before .before .before .before .before .before .before .before .before .before .value-at .ensures) _ _ (c .before .before .before .before .before .before .before .before .before .before .a .given .1), got _ _ _ (c .before .before .before .before .before .before .before .before .value-at2 .ensures) _ _ (c .before .before .before .before .before .before .b .given .1), got _ _ _ (c .before .before .before .before .value-at3 .ensures) _ _ (c .before .before .c .given .1), inside _ _ (c .if1 .left))
+
+pub three-spec : {M : Type 1} → statement M
+three-spec =
+    tie.close
+    (tie.spec
+    value-at-requires
+    enum-known-a
+    enum-told
+    returns
+    value-at-requires-2
+    enum-known-b
+    enum-told-2
+    returns-2
+    value-at-requires-3
+    enum-known-c
+    enum-told-3
+    returns-3
+    returns-4
+    returns-5)

@@ -1,0 +1,59 @@
+-- `fields::data::values_good` meets its contract. The `left` data from the cursor on are good exactly if all are.
+use Prim.Native.Nat.{_≤_}
+use mathlib.Core.Path.{_≡_, refl, sym, _∙_}
+use borrow.Author.Needs.{needs}
+use Rattle.paper.specs.Line.{valuesOf}
+use Rattle.fields.specs.Cursor.{restAt, readAs, isSome}
+use Rattle.fields.proofs.Cursors.{got, not-got}
+use Rattle.fields.proofs.Datas.{values-stop, values-go, values-end}
+use Rattle.fields.proofs.data.values_good.Statement.{statement}
+use Rattle.fields.proofs.data.values_good.Tie as tie
+
+abbrev Inv-loop : tie.InvT-loop
+Inv-loop l at n form p₀ left₀ p left = (left ≤ n) × (isSome (valuesOf (readAs form) n (restAt l at)) ≡ isSome (valuesOf (readAs form) left (restAt l p)))
+
+abbrev μ-loop : tie.MeasureT-loop
+μ-loop l at n form p₀ left₀ p left = left
+
+loop-holds : tie.Need-loop-holds Inv-loop μ-loop
+loop-holds c = (search needs, refl)
+
+value-at-requires : tie.Need-value-at-requires Inv-loop μ-loop
+value-at-requires c κs = search needs
+
+enum-known-next : tie.Need-enum-known-next Inv-loop μ-loop
+enum-known-next c = search needs
+
+enum-told : tie.Need-enum-told Inv-loop μ-loop
+enum-told c = search needs
+
+returns : tie.Need-returns Inv-loop μ-loop
+returns c = values-stop _ _ _ (c .before .before .before .loop-test .taken) (not-got _ _ _ (c .before .before .value-at .ensures) (c .enum-told .given .1)) ∙ sym (c .before .before .before .before .loop .inv .1)
+
+sub-left : tie.Need-sub-left Inv-loop μ-loop
+sub-left c = search needs
+
+loop-less : tie.Need-loop-less Inv-loop μ-loop
+loop-less c = search needs
+
+loop-again : tie.Need-loop-again Inv-loop μ-loop
+loop-again c = (search needs, c .before .before .before .before .before .loop .inv .1 ∙ values-go _ _ _ (c .before .before .before .before .loop-test .taken) _ _ (got _ _ _ (c .before .before .before .value-at .ensures) _ _ (c .before .next .given .1)))
+
+returns-2 : tie.Need-returns-2 Inv-loop μ-loop
+returns-2 c = values-end _ _ _ _ (c .loop-test .left) ∙ sym (c .before .loop .inv .1)
+
+pub values-good-spec : {M : Type 1} → statement M
+values-good-spec =
+    tie.close
+    (tie.spec
+    Inv-loop
+    μ-loop
+    loop-holds
+    value-at-requires
+    enum-known-next
+    enum-told
+    returns
+    sub-left
+    loop-less
+    loop-again
+    returns-2)

@@ -1,0 +1,53 @@
+-- `fields::take::count_at` meets its contract.
+use borrow.Author.Needs.{needs}
+use mathlib.Core.Path.{_≡_, sym, ap, _∙_}
+use Rattle.paper.specs.Line.{placeOf, fieldsAbove}
+use Rattle.fields.specs.Cursor.{restAt, gotOf, countedOf, begunOf, readAs, badStamp}
+use Rattle.fields.proofs.Cursors.{got, not-got, counted, not-counted, at-start}
+use Rattle.fields.proofs.Heads.{no-count, count-outside, count-good}
+use Rattle.fields.proofs.take.count_at.Statement.{statement}
+use Rattle.fields.proofs.take.count_at.Tie as tie
+
+value-at-requires : tie.Need-value-at-requires
+value-at-requires c κs = search needs
+
+enum-known-v : tie.Need-enum-known-v
+enum-known-v c = search needs
+
+enum-told : tie.Need-enum-told
+enum-told c = search needs
+
+returns : tie.Need-returns
+unfolding countedOf readAs
+returns c = no-count _ (not-got _ _ _ (c .before .before .value-at .ensures) (c .enum-told .given .1))
+
+up-to-requires : tie.Need-up-to-requires
+up-to-requires c κs = search needs
+
+enum-known-n : tie.Need-enum-known-n
+enum-known-n c = search needs
+
+enum-told-2 : tie.Need-enum-told-2
+enum-told-2 c = search needs
+
+returns-2 : tie.Need-returns-2
+unfolding countedOf readAs
+returns-2 c = count-outside _ _ (search needs) (got _ _ _ (c .before .before .before .before .before .before .value-at .ensures) _ _ (c .before .before .before .before .v .given .1)) (sym (c .before .before .up-to .ensures) ∙ c .enum-told2 .given .1)
+
+returns-3 : tie.Need-returns-3
+unfolding countedOf readAs
+returns-3 c = count-good _ _ _ (search needs) (got _ _ _ (c .before .before .before .before .before .before .before .value-at .ensures) _ _ (c .before .before .before .before .before .v .given .1)) (sym (c .before .before .before .up-to .ensures) ∙ c .before .n .given .1)
+
+pub count-at-spec : {M : Type 1} → statement M
+count-at-spec =
+    tie.close
+    (tie.spec
+    value-at-requires
+    enum-known-v
+    enum-told
+    returns
+    up-to-requires
+    enum-known-n
+    enum-told-2
+    returns-2
+    returns-3)

@@ -1,0 +1,48 @@
+-- What a cursor in a line means, and what the code's answers mean at it.
+use Prim.Native.Nat.{ℕ}
+use mathlib.Core.List.{List}
+use mathlib.Core.Bool.{Bool, true, false, cond}
+use mathlib.Core.Option.{Option, none, some}
+use lib.ListN.{length, drop}
+use lib.IntN.{pos}
+use lib.Dec.{ltb}
+use Rattle.paper.specs.Forms.{wholeOf, timeOf}
+use Rattle.paper.specs.Line.{First, nothing, first, Begun, bad, six, fieldsAbove}
+use Rattle.paper.specs.declared.Field.{Field}
+use Rattle.paper.specs.declared.Fault.the-variants as Fault
+use Rattle.fields.specs.declared.Form.{Form}
+use Rattle.fields.specs.declared.Form.the-variants.{Whole, Time}
+use Rattle.fields.specs.declared.Got.{Got}
+use Rattle.fields.specs.declared.Got.the-variants.{Value, Nothing}
+use Rattle.fields.specs.declared.Counted.{Counted}
+use Rattle.fields.specs.declared.Counted.the-variants as Counted
+use Rattle.fields.specs.declared.Opening.{Opening}
+use Rattle.fields.specs.declared.Opening.the-variants.{Six, Bad}
+
+unfoldable pub readAs : Form → List ℕ → Field
+readAs Whole = wholeOf
+readAs Time = timeOf
+
+-- the fields from the cursor on; none where it is past the end
+unfoldable pub restAt : List ℕ → ℕ → Option (List ℕ)
+restAt l at = cond (ltb (length l) at) none (some (drop at l))
+
+unfoldable pub gotOf : List ℕ → Got → First
+gotOf l Nothing = nothing
+gotOf l (Value v next) = first v (restAt l next)
+
+unfoldable pub begunOf : List ℕ → Opening → Begun
+begunOf l (Bad fault) = bad fault
+begunOf l (Six h next) = six h (restAt l next)
+
+unfoldable pub countedOf : List ℕ → Counted → First
+countedOf l Counted.Nothing = nothing
+countedOf l (Counted.Of n next) = first (pos n) (restAt l next)
+
+-- what a line comes to whose timestamp is bad
+unfoldable pub badStamp : List ℕ → Begun
+badStamp l = cond (fieldsAbove 5 l) (bad Fault.Stamp) (bad Fault.Form)
+
+unfoldable pub isSome : {A : Type 0} → Option A → Bool
+isSome none = false
+isSome (some a) = true
