@@ -4,3 +4,6 @@ pub mod Runs
 pub mod Signs
 pub mod Wholes
 pub mod Times
+pub mod Shown
+pub mod Stores
+pub mod Puts
