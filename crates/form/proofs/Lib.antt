@@ -7,3 +7,5 @@ pub mod Times
 pub mod Shown
 pub mod Stores
 pub mod Puts
+pub mod Foreign
+pub mod Goods

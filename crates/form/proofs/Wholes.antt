@@ -142,3 +142,12 @@ whole-range s = rw (capped s) (bounded (wholePart s))
 pub whole-small : (s : List ℕ) → AtMost 999999999999999 (wholeSize s)
 unfolding AtMost
 whole-small s n e = omega (arith, whole-range s n e)
+
+-- a good whole number is a good part
+pub whole-is-part : (s : List ℕ) (n : ℕ) → wholeSize s ≡ some n → wholePart s ≡ some n
+unfolding atMost
+whole-is-part s n e = go (wholePart s) (sym (capped s) ∙ e)
+  where
+    go : (o : Option ℕ) → atMost 999999999 o ≡ some n → o ≡ some n
+    go none e = e
+    go (some m) e = passed (leb m 999999999) (some m) e .1
