@@ -9,3 +9,5 @@ pub mod Stores
 pub mod Puts
 pub mod Foreign
 pub mod Goods
+pub mod Back
+pub mod Outcomes
