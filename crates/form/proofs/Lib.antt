@@ -4,3 +4,10 @@ pub mod Runs
 pub mod Signs
 pub mod Wholes
 pub mod Times
+pub mod Shown
+pub mod Stores
+pub mod Puts
+pub mod Foreign
+pub mod Goods
+pub mod Back
+pub mod Outcomes
