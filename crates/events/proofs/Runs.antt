@@ -1,7 +1,7 @@
 -- A match on a signed number becomes a tree of tests against its ends, and each way through the tree leaves a run of numbers. A
 -- run that lies inside a range of the table, or apart from all of them, has one standing, and a test of its two ends says which.
 -- The table's single numbers are keys of the match: on every other way the event is known to be none of them.
-use Prim.Native.Nat.{ℕ, zero, suc, _-_, _≤_, _<_, _^_}
+use Prim.Native.Nat.{ℕ, zero, suc, _-_, _≤_, _^_}
 use mathlib.Core.Path.{_≡_, refl, ap, sym, _∙_}
 use mathlib.Core.List.{List, [], _∷_}
 use mathlib.Core.Bool.{Bool, true, false, cond, _&&_, _||_}
@@ -18,6 +18,10 @@ use borrow.Author.Tests.{le-leb, lt-leb, leb-true, ltb-true, ltb-false, eqb-true
 use Rattle.paper.specs.Events.{inRanges, messages, notHandled, listedEvents, negative, standingOf}
 use Rattle.paper.specs.declared.Standing.{Standing}
 use Rattle.paper.specs.declared.Standing.the-variants.{Listed, Message, NotHandled, Unlisted}
+
+-- a case that the facts at hand rule out: `cc` shows 0 ≡ 1 from them
+never {ℓ} : {A : Type ℓ} → _≡_ {A = ℕ} 0 1 → A
+never e = absurd (omega arith)
 
 -- ---- a run against a list of ranges
 
@@ -64,7 +68,7 @@ module _ (lo hi n : ℕ) (l : lo ≤ n) (h : n ≤ hi) where
       go false false false true p q r u k e =
           let v = both (leb a lo) (leb hi b) u in
           rw (le-leb a n (omega (arith, leb-true a lo (v .0))), le-leb n b (omega (arith, leb-true hi b (v .1)))) (some-injective true t e)
-      go false false false false p q r u k e = let z : _≡_ {A = ℕ} 0 1 = cc in absurd (omega arith)
+      go false false false false p q r u k e = never (cc)
 
   over-is : (rs : List (ℕ × ℕ)) {t : Bool} → Apart rs n → over rs lo hi ≡ some t → inRanges rs n ≡ t
   unfolding inRanges
@@ -85,7 +89,7 @@ standingIn lo hi =
 
 picked : {s : Standing} (o : Option Bool) (a : Standing) (b : Option Standing) → pick o (some a) b ≡ some s
     → (i : Bool) → ((t : Bool) → o ≡ some t → i ≡ t) → (j : Standing) → (b ≡ some s → s ≡ j) → s ≡ cond i a j
-picked none a b e i f j g = let z : _≡_ {A = ℕ} 0 1 = cc in absurd (omega arith)
+picked none a b e i f j g = never (cc)
 picked (some true) a b e i f j g = rw (f true refl) (sym (some-injective a _ e))
 picked (some false) a b e i f j g = rw (f false refl) (g e)
 
@@ -118,12 +122,12 @@ at-least n zero p = omega arith
 at-least n (suc k) p = omega (arith, ltb-true k n p)
 
 at-most : (n k : ℕ) → ltZ (negsuc n) (negℤ (pos k)) ≡ false → suc n ≤ k
-at-most n zero p = let z : _≡_ {A = ℕ} 0 1 = cc in absurd (omega arith)
+at-most n zero p = never (cc)
 at-most n (suc k) p = omega (arith, ltb-false k n p)
 
 negative-only : (n k : ℕ) → ltZ (pos n) (negℤ (pos k)) ≡ true → ⊥
 negative-only n zero p = omega (arith, ltb-true n 0 p)
-negative-only n (suc k) p = let z : _≡_ {A = ℕ} 0 1 = cc in omega arith
+negative-only n (suc k) p = never (cc)
 
 module _ {e : ℤ} (f : SFits w64 e) where
   -- from -hi to -lo
@@ -152,7 +156,7 @@ module _ {e : ℤ} (f : SFits w64 e) where
     where
       go : (e : ℤ) → ltZ e (pos 0) ≡ false → ltZ e (pos 1000000000) ≡ true → Listed ≡ standingOf e
       go (pos n) p q = rw (le-leb n 999999999 (omega (arith, ltb-true n 1000000000 q)))
-      go (negsuc n) p q = let z : _≡_ {A = ℕ} 0 1 = cc in absurd (omega arith)
+      go (negsuc n) p q = never (cc)
 
   pub above : ltZ (toZ w64 (ofZ w64 e)) (pos 1000000000) ≡ false → Unlisted ≡ standingOf e
   unfolding standingOf
@@ -160,7 +164,7 @@ module _ {e : ℤ} (f : SFits w64 e) where
     where
       go : (e : ℤ) → ltZ e (pos 1000000000) ≡ false → Unlisted ≡ standingOf e
       go (pos n) p = rw (lt-leb n 999999999 (omega (arith, ltb-false n 1000000000 p)))
-      go (negsuc n) p = let z : _≡_ {A = ℕ} 0 1 = cc in absurd (omega arith)
+      go (negsuc n) p = never (cc)
 
   -- a key of the match
   pub key : {s : Standing} (k : ℤ) → s ≡ standingOf k → toZ w64 (ofZ w64 k) ≡ k → ofZ w64 e ≡ ofZ w64 k → s ≡ standingOf e

@@ -2,16 +2,16 @@
 use Prim.Native.Nat.{ℕ, _+_, _-_, _*_, _≤_}
 use mathlib.Core.Path.{_≡_, sym}
 use mathlib.Core.List.{List, [], _∷_, _++_}
-use mathlib.Core.Bool.{Bool, true, false, not, _&&_}
+use mathlib.Core.Bool.{true, false, not, _&&_}
 use mathlib.Core.Option.{some}
-use native.Mathlib.Omega.{arith}
 use lib.ListN.{take, drop}
-use lib.Dec.{leb, eqb}
+use lib.Dec.{eqb}
 use borrow.Author.Tests.{le-leb, eqb-false, not-true}
 use Rattle.paper.specs.Forms.{isDigit, digitsFrom, timeSize}
 use Rattle.form.specs.Sizes.{wholePart}
 use Rattle.form.specs.Free.{Free, foreign}
-use Rattle.form.proofs.Runs.{both, first}
+use Rattle.form.proofs.Tests.{never, both}
+use Rattle.form.proofs.Runs.{first}
 use Rattle.form.proofs.Wholes.{good-part}
 use Rattle.form.proofs.Times.{pointAt, good-time, split}
 
@@ -33,8 +33,7 @@ module _ (b : ℕ) (f : foreign b ≡ true) where
   foreign-digit {d} l h e =
       let t : isDigit d ≡ true = rw (le-leb 48 d, le-leb d 57) in
       let q : isDigit b ≡ true = rw (← e) t in
-      let r : _≡_ {A = ℕ} 0 1 = cc (tests .0) in
-      omega arith
+      never (cc (tests .0))
 
   pub foreign-minus : 45 ≡ b → ⊥
   foreign-minus e = tests .1 (sym e)

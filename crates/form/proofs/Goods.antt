@@ -5,7 +5,6 @@ use mathlib.Core.Path.{_≡_, refl, ap}
 use mathlib.Core.List.{List, [], _∷_}
 use mathlib.Core.Bool.{Bool, true, false, cond}
 use mathlib.Core.Option.{Option, none, some}
-use native.Mathlib.Omega.{arith}
 use lib.IntN.{ℤ, pos, negsuc, natAbs}
 use lib.Dec.{eqb}
 use borrow.Author.Tests.{eqb-true}
@@ -13,6 +12,7 @@ use Rattle.paper.specs.declared.Field.the-variants.{Good, Bad}
 use Rattle.paper.specs.Forms.{hasMinus, signed, behindSign, unled, wholeSize, wholeOf, timeSize, timeOf}
 use Rattle.form.specs.Sizes.{AtMost}
 use Rattle.form.specs.Free.{Free, foreign}
+use Rattle.form.proofs.Tests.{never}
 use Rattle.form.proofs.Foreign.{foreign-minus, part-free, parts-free}
 use Rattle.form.proofs.Wholes.{one-part, whole-range, whole-is-part}
 use Rattle.form.proofs.Times.{one-time, time-range}
@@ -26,13 +26,13 @@ data Signed (size : List ℕ → Option ℕ) : List ℕ → ℤ → Type 0 where
 module _ (size : List ℕ → Option ℕ) where
   plain-good : (s : List ℕ) (z : ℤ) (o : Option ℕ) → size s ≡ o → signed false o ≡ Good z → Signed size s z
   unfolding signed
-  plain-good s z none p e = let q : _≡_ {A = ℕ} 0 1 = cc in absurd (omega arith)
+  plain-good s z none p e = never (cc)
   plain-good s z (some n) p e = let q : pos n ≡ z = cc in rw (← q) (plain p)
 
   minus-good : (s : List ℕ) (z : ℤ) (o : Option ℕ) → size s ≡ o → signed true o ≡ Good z → Signed size (45 ∷ s) z
   unfolding signed
-  minus-good s z none p e = let q : _≡_ {A = ℕ} 0 1 = cc in absurd (omega arith)
-  minus-good s z (some zero) p e = let q : _≡_ {A = ℕ} 0 1 = cc in absurd (omega arith)
+  minus-good s z none p e = never (cc)
+  minus-good s z (some zero) p e = never (cc)
   minus-good s z (some (suc n)) p e = let q : negsuc n ≡ z = cc in rw (← q) (minus p)
 
   good-signed : (s : List ℕ) (z : ℤ) → behindSign size s ≡ Good z → Signed size s z

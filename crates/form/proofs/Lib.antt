@@ -1,4 +1,5 @@
 -- The laws of the forms, over plain lists and numbers, for this crate and for those above it.
+pub mod Tests
 pub mod Machine
 pub mod Runs
 pub mod Signs
@@ -11,3 +12,4 @@ pub mod Foreign
 pub mod Goods
 pub mod Back
 pub mod Outcomes
+pub mod Ends

@@ -1,8 +1,8 @@
 -- What the statements of the public functions come to for a caller: any two outcomes that a statement allows are the same, and
 -- what each answer of `write_time` says.
 use Prim.Native.Nat.{ℕ, _+_, _≤_, _<_}
-use mathlib.Core.Path.{_≡_, refl, ap, sym, _∙_}
-use mathlib.Core.List.{List, _++_, append-assoc}
+use mathlib.Core.Path.{_≡_, refl, sym, _∙_}
+use mathlib.Core.List.{List, _++_}
 use mathlib.Core.Bool.{Bool, true, false, cond}
 use native.Mathlib.Omega.{arith}
 use lib.ListN.{length, take, drop, length-append, length-drop}
@@ -61,24 +61,24 @@ module _ (room : List ℕ) (at : ℕ) (z : ℤ) where
   abbrev inRoom : Bool
   inRoom = leb (at + length (timeShown z)) (length room)
 
-  pub put-at : {end : ℕ} {after : List ℕ} → TimePut room at z (At end) after → Stored room at z end after
+  pub put-at : {r : Put} {after : List ℕ} {end : ℕ} → TimePut room at z r after → r ≡ At end → Stored room at z end after
   unfolding timePut putOf roomAfter
-  put-at p =
-      let c = at-chosen inTime inRoom (at + length (timeShown z)) (p .answer) in
+  put-at p e =
+      let c = at-chosen inTime inRoom (at + length (timeShown z)) (sym e ∙ p .answer) in
       record {
         ends = c .2;
         fits = rw (c .2) (leb-true (at + length (timeShown z)) (length room) (c .1));
         size = leb-true (natAbs z) 999999999999999 (c .0);
-        holds = p .holds;
+        holds = rw e at (p .holds);
       }
 
-  pub put-no-room : {after : List ℕ} → TimePut room at z NoRoom after → (length room < at + length (timeShown z)) × (after ≡ room)
+  pub put-no-room : {r : Put} {after : List ℕ} → TimePut room at z r after → r ≡ NoRoom → (length room < at + length (timeShown z)) × (after ≡ room)
   unfolding timePut putOf roomAfter
-  put-no-room p = (leb-false (at + length (timeShown z)) (length room) (room-chosen inTime inRoom (at + length (timeShown z)) (p .answer) .1), p .holds)
+  put-no-room p e = (leb-false (at + length (timeShown z)) (length room) (room-chosen inTime inRoom (at + length (timeShown z)) (sym e ∙ p .answer) .1), rw e at (p .holds))
 
-  pub put-no-time : {after : List ℕ} → TimePut room at z NoTime after → (999999999999999 < natAbs z) × (after ≡ room)
+  pub put-no-time : {r : Put} {after : List ℕ} → TimePut room at z r after → r ≡ NoTime → (999999999999999 < natAbs z) × (after ≡ room)
   unfolding timePut putOf roomAfter
-  put-no-time p = (leb-false (natAbs z) 999999999999999 (time-chosen inTime inRoom (at + length (timeShown z)) (p .answer)), p .holds)
+  put-no-time p e = (leb-false (natAbs z) 999999999999999 (time-chosen inTime inRoom (at + length (timeShown z)) (sym e ∙ p .answer)), rw e at (p .holds))
 
 -- ---- one write behind another: what stands before the end, and what stands behind it
 

@@ -1,6 +1,6 @@
--- Laws of a word put into a room: the two answers, from what the code knows, and what each says to a caller.
+-- A word put into a room: each answer, from what the code knows where it gives it.
 use Prim.Native.Nat.{ℕ, _+_, _/_, _≤_, _<_}
-use mathlib.Core.Path.{_≡_, refl, ap, sym, _∙_}
+use mathlib.Core.Path.{_≡_, refl, sym, _∙_}
 use mathlib.Core.List.{List, _++_}
 use mathlib.Core.Bool.{Bool, true, false}
 use mathlib.Core.Option.{none, some}
@@ -17,7 +17,7 @@ use Rattle.paper.specs.Forms.{atMost, placesFrom, sizeShown, timeShown}
 use Rattle.form.specs.declared.Put.{Put}
 use Rattle.form.specs.declared.Put.the-variants.{At, NoRoom, NoTime}
 use Rattle.form.specs.Writes.{putOf, roomAfter, WordPut, timePut, TimePut, signShown}
-use Rattle.form.proofs.Wholes.{held-is, refused-is}
+use Rattle.form.proofs.Tests.{held-is, refused-is}
 use Rattle.form.proofs.Shown.{length-size, by-sign}
 use Rattle.form.proofs.Stores.{sets-append}
 

@@ -1,7 +1,7 @@
 -- Laws of `digitsFrom`: a turn of the loop that reads digits, one run behind another, how large the number grows, and that no
 -- two runs of one length write the same number.
 use Prim.Native.Nat.{ℕ, suc, _+_, _-_, _*_, _^_, _≤_, _<_}
-use mathlib.Core.Path.{_≡_, refl, ap, sym, _∙_}
+use mathlib.Core.Path.{_≡_, refl, _∙_}
 use mathlib.Core.List.{List, [], _∷_, _++_}
 use mathlib.Core.Bool.{Bool, true, false, cond, _&&_}
 use mathlib.Core.Option.{Option, none, some, Option·some-injective as some-injective}
@@ -13,16 +13,7 @@ use lib.Seq.{drop-cons}
 use lib.Dec.{leb, lit<}
 use borrow.Author.Tests.{le-leb, lt-leb, leb-true}
 use Rattle.paper.specs.Forms.{isDigit, digitsFrom}
-
--- ---- tests
-
-pub both : (t u : Bool) → (t && u) ≡ true → (t ≡ true) × (u ≡ true)
-both true u e = (refl, e)
-both false u e = (cc, cc)
-
-pub passed : (t : Bool) (o : Option ℕ) {n : ℕ} → cond t o none ≡ some n → (t ≡ true) × (o ≡ some n)
-passed true o e = (refl, e)
-passed false o e = (cc, cc)
+use Rattle.form.proofs.Tests.{both, passed}
 
 -- ---- a turn of the loop, by the byte b at i
 

@@ -1,18 +1,18 @@
 -- Laws of the sign, over any form `size` of what stands behind it.
-use Prim.Native.Nat.{ℕ, zero, suc, _-_, _≤_, _<_}
-use mathlib.Core.Path.{_≡_, refl, ap, sym, _∙_}
+use Prim.Native.Nat.{ℕ, zero, suc, _-_, _≤_}
+use mathlib.Core.Path.{_≡_, refl, _∙_}
 use mathlib.Core.List.{List, [], _∷_}
-use mathlib.Core.Bool.{Bool, true, false, cond}
+use mathlib.Core.Bool.{Bool, true, false}
 use mathlib.Core.Option.{Option, none, some}
 use native.Mathlib.Omega.{arith}
 use native.Mathlib.Nat.{le-refl}
-use lib.ListN.{length, getD, take, drop, length-drop}
+use lib.ListN.{length, take, drop, length-drop}
 use lib.Seq.{take-all}
-use lib.IntN.{ℤ, pos, negsuc, negℤ, natAbs}
+use lib.IntN.{pos, negℤ}
 use Rattle.paper.specs.declared.Field.{Field}
 use Rattle.paper.specs.declared.Field.the-variants.{Good, Bad}
 use Rattle.paper.specs.Forms.{hasMinus, signed, behindSign}
-use Rattle.form.specs.Sizes.{AtMost}
+use Rattle.form.proofs.Tests.{never}
 
 pub no-byte : (s : List ℕ) → length s ≡ 0 → false ≡ hasMinus s
 unfolding hasMinus
@@ -21,7 +21,7 @@ no-byte (b ∷ s) e = absurd (omega arith)
 
 pub minus-byte : (s : List ℕ) {t : Bool} → t ≡ hasMinus s → t ≡ true → 1 ≤ length s
 unfolding hasMinus
-minus-byte [] e p = let q : _≡_ {A = ℕ} 0 1 = cc in absurd (omega arith)
+minus-byte [] e p = never (cc)
 minus-byte (b ∷ s) e p = omega arith
 
 pub never-good : (minus : Bool) → Bad ≡ signed minus none

@@ -1,7 +1,7 @@
 -- Laws of the time without its sign: a whole part, a point, six digits.
-use Prim.Native.Nat.{ℕ, zero, suc, _+_, _-_, _*_, _^_, _≤_, _<_}
+use Prim.Native.Nat.{ℕ, _+_, _-_, _^_, _≤_, _<_}
 use mathlib.Core.Path.{_≡_, refl, ap, sym, _∙_}
-use mathlib.Core.List.{List, [], _∷_, _++_}
+use mathlib.Core.List.{List, _∷_, _++_}
 use mathlib.Core.Bool.{Bool, true, false, cond, _&&_, and-true, and-false}
 use mathlib.Core.Option.{Option, none, some}
 use native.Mathlib.Numerals.{add-one}
@@ -9,11 +9,12 @@ use native.Mathlib.Nat.{sub-zero}
 use native.Mathlib.Omega.{arith}
 use lib.ListN.{length, getD, take, drop, length-take, length-drop}
 use lib.Seq.{split-at}
-use lib.Dec.{leb, ltb, eqb}
+use lib.Dec.{leb, eqb}
 use borrow.Author.Tests.{le-leb, lt-leb, eq-eqb, ne-eqb, leb-true, eqb-true}
 use Rattle.paper.specs.Forms.{digitsFrom, unled, timeSize}
 use Rattle.form.specs.Sizes.{AtMost, wholePart}
-use Rattle.form.proofs.Runs.{both, passed, onward, joined, below, apart}
+use Rattle.form.proofs.Tests.{never, both, passed}
+use Rattle.form.proofs.Runs.{onward, joined, below, apart}
 use Rattle.form.proofs.Signs.{part-from}
 use Rattle.form.proofs.Wholes.{good-part, part-range, one-part}
 
@@ -83,7 +84,7 @@ good-time s n e =
     go h d (wholePart (take (pointAt s) s)) refl (sym (in-parts s h d) ∙ e)
   where
     go : length s ≤ 16 → getD s (pointAt s) 0 ≡ 46 → (o : Option ℕ) → wholePart (take (pointAt s) s) ≡ o → onward o (drop (pointAt s + 1) s) ≡ some n → Time s n
-    go h d none w r = let z : _≡_ {A = ℕ} 0 1 = cc in absurd (omega arith)
+    go h d none w r = never (cc)
     go h d (some v) w r =
         let l = simp length-take at (good-part (take (pointAt s) s) v w .some-digit) in
         record { least = omega arith; most = h; point = d; seconds = v; whole = w; rest = r }

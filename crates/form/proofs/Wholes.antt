@@ -1,17 +1,18 @@
 -- Laws of the whole number, and of the whole part of a time: digits without a leading zero.
-use Prim.Native.Nat.{ℕ, zero, suc, _+_, _-_, _*_, _^_, _≤_, _<_}
-use mathlib.Core.Path.{_≡_, refl, ap, sym, _∙_}
+use Prim.Native.Nat.{ℕ, suc, _+_, _-_, _*_, _^_, _≤_, _<_}
+use mathlib.Core.Path.{_≡_, refl, sym, _∙_}
 use mathlib.Core.List.{List, [], _∷_}
 use mathlib.Core.Bool.{Bool, true, false, cond, not, _&&_}
 use mathlib.Core.Option.{Option, none, some}
 use native.Mathlib.Omega.{arith}
 use native.Mathlib.Nat.{zero-add, le-antisymm, lt-of-not-le}
 use lib.ListN.{length, getD}
-use lib.Dec.{leb, ltb, eqb, lit<, lit≤}
-use borrow.Author.Tests.{le-leb, lt-leb, le-ltb, lt-ltb, eq-eqb, ne-eqb, ltb-true, leb-true, leb-false, eqb-false, not-true}
+use lib.Dec.{leb, ltb, eqb, lit<}
+use borrow.Author.Tests.{lt-ltb, eq-eqb, ne-eqb, ltb-true, eqb-false, not-true}
 use Rattle.paper.specs.Forms.{digitsFrom, isDigit, unled, atMost, wholeSize}
 use Rattle.form.specs.Sizes.{AtMost, wholePart}
-use Rattle.form.proofs.Runs.{both, passed, first, below, reaches, cap, apart}
+use Rattle.form.proofs.Tests.{never, both, passed, held-is, within, beyond}
+use Rattle.form.proofs.Runs.{first, below, reaches, cap, apart}
 
 -- ---- the four ways of the code
 
@@ -87,38 +88,6 @@ capped s = go (unled s)
     go true = refl
     go false = refl
 
-pub held : {n most : ℕ} → n ≤ most → some n ≡ atMost most (some n)
-unfolding atMost
-held {n} {most} h = rw (le-leb n most h)
-
-pub refused : {n most : ℕ} → most < n → none ≡ atMost most (some n)
-unfolding atMost
-refused {n} {most} h = rw (lt-leb n most h)
-
-pub held-is : {m n most : ℕ} → some m ≡ atMost most (some n) → (m ≡ n) × (n ≤ most)
-unfolding atMost
-held-is {m} {n} {most} e =
-    let p = passed (leb n most) (some n) (sym e) in
-    (cc, leb-true n most (p .0))
-
-pub refused-is : {n most : ℕ} → none ≡ atMost most (some n) → most < n
-unfolding atMost
-refused-is {n} {most} e = go (leb n most) refl e
-  where
-    go : (t : Bool) → leb n most ≡ t → none ≡ cond t (some n) none → most < n
-    go true p e = let q : _≡_ {A = ℕ} 0 1 = cc in absurd (omega arith)
-    go false p e = leb-false n most p
-
-within : (most : ℕ) (o : Option ℕ) → AtMost most o → atMost most o ≡ o
-unfolding atMost AtMost
-within most none h = refl
-within most (some n) h = sym (held (h n refl))
-
-beyond : (most : ℕ) (o : Option ℕ) → ((n : ℕ) → o ≡ some n → most < n) → atMost most o ≡ none
-unfolding atMost
-beyond most none h = refl
-beyond most (some n) h = sym (refused (h n refl))
-
 pub part-range : (s : List ℕ) → length s ≤ 9 → AtMost 999999999 (wholePart s)
 unfolding AtMost
 part-range s h n e = omega (arith, good-part s n e .high, cap (length s) 9 h)
@@ -135,7 +104,7 @@ unfolding AtMost atMost
 whole-range s = rw (capped s) (bounded (wholePart s))
   where
     bounded : (o : Option ℕ) → AtMost 999999999 (atMost 999999999 o)
-    bounded none n e = let q : _≡_ {A = ℕ} 0 1 = cc in absurd (omega arith)
+    bounded none n e = never (cc)
     bounded (some m) n e = omega (arith, held-is {m = n} {n = m} {most = 999999999} (sym e))
 
 -- a whole number is well within the times

@@ -13,12 +13,12 @@ fn wide(b: u8) -> u64
     b as u64
 }
 
-// The number that v makes with the digits of s after it. Nine digits and a number of nine are far from the end of a u64.
+// The number that v makes with the digits of s after it; '0' is 48 and '9' is 57. Nine digits behind nine do not fill a u64.
 fn read_digits(s: &[u8], v: u64) -> Size
     requires { ⌜ (length (now s) ≤ 9) × (v < 10 ^ 9) ⌝ }
     ensures { λ r. ⌜ number r ≡ digitsFrom v (now (s .entry)) ⌝ }
 {
-    let mut sum = v;
+    let mut value = v;
     let mut i: usize = 0;
     while i < s.len() {
         let b = wide(s[i]);
@@ -28,10 +28,10 @@ fn read_digits(s: &[u8], v: u64) -> Size
         if 57 < b {
             return Size::Bad;
         }
-        sum = sum * 10 + (b - 48);
+        value = value * 10 + (b - 48);
         i += 1;
     }
-    Size::Of(sum)
+    Size::Of(value)
 }
 
 // Digits without a leading zero, a single 0 being good: a whole number, and the part of a time before its point.
@@ -69,13 +69,13 @@ pub(crate) fn time_size(s: &[u8]) -> Size
     if 16 < n {
         return Size::Bad;
     }
-    let w = n - 7;
-    if s[w] != b'.' {
+    let point = n - 7;
+    if s[point] != b'.' {
         return Size::Bad;
     }
-    let f = w + 1;
-    match whole_part(&s[0..w]) {
-        Size::Of(v) => read_digits(&s[f..], v),
+    let six = point + 1;
+    match whole_part(&s[0..point]) {
+        Size::Of(seconds) => read_digits(&s[six..], seconds),
         Size::Bad => Size::Bad,
     }
 }

@@ -4,13 +4,13 @@ use mathlib.Core.Bool.{Bool, true, false, cond, _&&_, _||_}
 use mathlib.Core.List.{List, [], _∷_}
 use lib.IntN.{ℤ, pos, negsuc}
 use lib.Dec.{leb}
+use Rattle.paper.specs.Tests.{eqZ}
 use Rattle.paper.specs.declared.Standing.{Standing}
 use Rattle.paper.specs.declared.Standing.the-variants.{Listed, Message, NotHandled, Unlisted}
 
 -- "Listed record types: -2 mark, -3 entry, -4 exit, 0 user data."
 unfoldable pub listedKind : ℤ → Bool
-listedKind (pos n) = leb n 0
-listedKind (negsuc n) = leb 1 n && leb n 3
+listedKind k = eqZ k (negsuc 1) || eqZ k (negsuc 2) || eqZ k (negsuc 3) || eqZ k (pos 0)
 
 -- n is in one of the ranges, ends included
 unfoldable pub inRanges : List (ℕ × ℕ) → ℕ → Bool

@@ -1,5 +1,4 @@
 -- The two ways of a reader, at the form of a time.
-use native.Mathlib.Omega.{arith}
 use borrow.Author.Needs.{needs}
 use Rattle.paper.specs.Forms.{timeSize, timeOf}
 use Rattle.form.proofs.Signs.{minus-byte, behind-minus, behind-none}

@@ -2,7 +2,7 @@
 use mathlib.Core.Path.{ap, sym, _∙_}
 use borrow.Author.Needs.{needs}
 use Rattle.form.specs.Sizes.{number}
-use Rattle.form.proofs.Wholes.{held-is}
+use Rattle.form.proofs.Tests.{held-is}
 use Rattle.form.proofs.Puts.{time-stored, no-time}
 use Rattle.form.proofs.write_time.Statement.{statement}
 use Rattle.form.proofs.write_time.Tie as tie

@@ -1,6 +1,5 @@
 -- A law of `timeSize` for each way out; the needs between them are of lengths alone.
 use mathlib.Core.Path.{ap, sym, _∙_}
-use native.Mathlib.Omega.{arith}
 use borrow.Author.Needs.{needs}
 use Rattle.form.specs.Sizes.{number}
 use Rattle.form.proofs.Times.{time-short, time-long, pointless, whole-bad, whole-below, whole-good}
@@ -15,8 +14,8 @@ returns-2 : tie.Need-returns-2
 unfolding number
 returns-2 c = sym (time-long _ (c .if2 .taken))
 
-sub-w : tie.Need-sub-w
-sub-w c = search needs
+sub-point : tie.Need-sub-point
+sub-point c = search needs
 
 shared-slice-read-if3 : tie.Need-shared-slice-read-if3
 shared-slice-read-if3 c = search needs
@@ -25,8 +24,8 @@ returns-3 : tie.Need-returns-3
 unfolding number
 returns-3 c = sym (pointless _ (c .if3 .taken))
 
-add-f : tie.Need-add-f
-add-f c = search needs
+add-six : tie.Need-add-six
+add-six c = search needs
 
 sub-whole-part : tie.Need-sub-whole-part
 sub-whole-part c = search needs
@@ -40,8 +39,8 @@ part-whole-part-end c = search needs
 whole-part-requires : tie.Need-whole-part-requires
 whole-part-requires c κs = search needs
 
-enum-known-v : tie.Need-enum-known-v
-enum-known-v c = search needs
+enum-known-seconds : tie.Need-enum-known-seconds
+enum-known-seconds c = search needs
 
 sub-read-digits : tie.Need-sub-read-digits
 sub-read-digits c = search needs
@@ -56,7 +55,7 @@ read-digits-requires : tie.Need-read-digits-requires
 unfolding number
 read-digits-requires c κs =
     let k = c .before .before .before .before in
-    (search needs, whole-below (k .before .before .before .before .before .before .before .args .s .now) (k .before .before .before .before .if2 .left) (k .before .before .if3 .left) _ (k .whole-part .ensures) _ (ap number (c .before .before .v .given .1)))
+    (search needs, whole-below (k .before .before .before .before .before .before .before .args .s .now) (k .before .before .before .before .if2 .left) (k .before .before .if3 .left) _ (k .whole-part .ensures) _ (ap number (c .before .before .seconds .given .1)))
 
 enum-told : tie.Need-enum-told
 enum-told c = search needs
@@ -66,7 +65,7 @@ unfolding number
 returns-4 c =
     let k = c .before .before .before .before .before in
     c .read-digits .ensures
-    ∙ whole-good _ (k .before .before .before .before .if2 .left) (k .before .before .if3 .left) _ (k .whole-part .ensures) _ (ap number (c .before .before .before .v .given .1))
+    ∙ whole-good _ (k .before .before .before .before .if2 .left) (k .before .before .if3 .left) _ (k .whole-part .ensures) _ (ap number (c .before .before .before .seconds .given .1))
 
 returns-5 : tie.Need-returns-5
 unfolding number
@@ -80,15 +79,15 @@ time-size-spec =
     (tie.spec
     returns
     returns-2
-    sub-w
+    sub-point
     shared-slice-read-if3
     returns-3
-    add-f
+    add-six
     sub-whole-part
     part-whole-part-start
     part-whole-part-end
     whole-part-requires
-    enum-known-v
+    enum-known-seconds
     sub-read-digits
     part-read-digits-start
     part-read-digits-end

@@ -3,11 +3,12 @@ use Prim.Native.Nat.{_<_, _^_}
 use mathlib.Core.Path.{ap}
 use native.Mathlib.Omega.{arith}
 use borrow.Author.Needs.{needs}
+use lib.IntN.{pos}
 use mir.Syntax.{w64}
 use mir.Facts.{toZ-pos}
 use Rattle.paper.specs.Forms.{signed}
 use Rattle.form.specs.Sizes.{number, AtMost}
-use Rattle.form.proofs.Machine.{pos-fits, negation-fits, negated-back}
+use Rattle.form.proofs.Machine.{sized, minus-fits, minus-back}
 use Rattle.form.proofs.Signs.{never-good, minus-good}
 use Rattle.form.proofs.read.with_sign.Statement.{statement}
 use Rattle.form.proofs.read.with_sign.Tie as tie
@@ -20,10 +21,10 @@ unfolding AtMost number
 small c = omega (arith, c .before .before .before .pre _ (ap number (c .before .size .given .1)))
 
 cast-z : tie.Need-cast-z
-cast-z c = pos-fits (small c)
+cast-z c = sized (pos _) (small c)
 
 sub-t10 : tie.Need-sub-t10
-sub-t10 c = negation-fits (small (c .before .before))
+sub-t10 c = minus-fits (cast-z (c .before .before)) (small (c .before .before))
 
 enum-told : tie.Need-enum-told
 enum-told c = search needs
@@ -34,7 +35,7 @@ returns c = rw (c .before .before .before .size .given .1, c .before .if1 .taken
 
 returns-2 : tie.Need-returns-2
 unfolding number
-returns-2 c = rw (c .before .before .before .size .given .1, c .before .if1 .taken, minus-good _ (c .if2 .left), negated-back (small (c .before .before)))
+returns-2 c = rw (c .before .before .before .size .given .1, c .before .if1 .taken, minus-good _ (c .if2 .left), minus-back (cast-z (c .before .before)) (small (c .before .before)))
 
 returns-3 : tie.Need-returns-3
 unfolding number signed

@@ -6,7 +6,7 @@ use lib.Signed.{nonNeg}
 use lib.Dec.{T}
 use mir.Facts.{toZ-ofZ}
 use Rattle.form.specs.Sizes.{number}
-use Rattle.form.proofs.Wholes.{held, refused}
+use Rattle.form.proofs.Tests.{held, refused}
 use Rattle.form.proofs.Machine.{below-limit, above-limit, negative, positive, minus-fits, minus-back, abs-neg}
 use Rattle.form.proofs.write.size_of.Statement.{statement}
 use Rattle.form.proofs.write.size_of.Tie as tie

@@ -1,0 +1,174 @@
+-- What a listed line's record is, and its message.
+use Prim.Native.Nat.{ℕ}
+use mathlib.Core.Path.{_≡_, refl, sym, ap, _∙_}
+use mathlib.Core.List.{List}
+use mathlib.Core.Bool.{Bool, true, false, cond, _&&_, _||_}
+use mathlib.Core.Option.{Option, none, some}
+use native.Mathlib.Omega.{arith}
+use lib.IntN.{ℤ, pos, negsuc, natAbs}
+use lib.Signed.{leZ}
+use lib.Dec.{leb·zero}
+use Rattle.paper.specs.Tests.{eqZ, upTo}
+use Rattle.paper.specs.Line.{partOf, messageOf, placed, onPlace, listedLine, roleOf, withRole, withData, dataOf}
+use Rattle.paper.specs.declared.Data.{Data}
+use Rattle.paper.specs.declared.Data.the-variants.{Malformed, Three, Others}
+use Rattle.paper.specs.declared.Role.{Role}
+use Rattle.paper.specs.declared.Role.the-variants as Role
+use Rattle.paper.specs.declared.Part.{Part}
+use Rattle.paper.specs.declared.Part.the-variants.{Neither, Sends, Receives}
+use Rattle.paper.specs.declared.Message.{Message}
+use Rattle.paper.specs.declared.Head.{Head}
+use Rattle.paper.specs.declared.Fault.the-variants as Fault
+use Rattle.paper.specs.declared.Line.the-variants.{Refused, Listed}
+use Rattle.line.specs.Sorting.{noteOf}
+use Rattle.line.specs.declared.listed.Note.{Note}
+use Rattle.line.specs.declared.listed.Note.the-variants as Note
+use Rattle.signed.specs.Naturals.{sizeOf, naturalOf}
+use Rattle.signed.specs.declared.Natural.{Natural}
+use Rattle.signed.specs.declared.Natural.the-variants.{Of, Outside}
+use Rattle.signed.proofs.Equal.{eqZ-true}
+
+-- ---- what the record is
+
+module _ {k u e v : ℤ} (same-kind : u ≡ k) (same-event : v ≡ e) where
+  pub sends : eqZ u (negsuc 2) ≡ true → eqZ v (negsuc 20) ≡ true → Sends ≡ partOf k e
+  unfolding partOf
+  sends a b = rw (← same-kind, ← same-event, a, b)
+
+  pub other-entry : eqZ u (negsuc 2) ≡ true → eqZ v (negsuc 20) ≡ false → Neither ≡ partOf k e
+  unfolding partOf
+  other-entry a b = let q : k ≡ negsuc 2 = sym same-kind ∙ eqZ-true u (negsuc 2) a in rw (q, ← same-event, b)
+
+  module _ (not-entry : eqZ u (negsuc 2) ≡ false) where
+    pub receives : eqZ u (negsuc 3) ≡ true → eqZ v (negsuc 50) ≡ true → Receives ≡ partOf k e
+    unfolding partOf
+    receives a b = rw (← same-kind, ← same-event, not-entry, a, b)
+
+    pub receives-too : eqZ u (negsuc 3) ≡ true → eqZ v (negsuc 50) ≡ false → eqZ v (negsuc 51) ≡ true → Receives ≡ partOf k e
+    unfolding partOf
+    receives-too a b c = rw (← same-kind, ← same-event, not-entry, a, b, c)
+
+    pub other-exit : eqZ u (negsuc 3) ≡ true → eqZ v (negsuc 50) ≡ false → eqZ v (negsuc 51) ≡ false → Neither ≡ partOf k e
+    unfolding partOf
+    other-exit a b c = rw (← same-kind, ← same-event, not-entry, a, b, c)
+
+    pub other-kind : eqZ u (negsuc 3) ≡ false → Neither ≡ partOf k e
+    unfolding partOf
+    other-kind a = rw (← same-kind, ← same-event, not-entry, a)
+
+-- ---- a size, or a number up to the most
+
+not-negative : (z : ℤ) (n : ℕ) → sizeOf z ≡ Of n → z ≡ pos n
+unfolding sizeOf
+not-negative (pos m) n e = let q : m ≡ n = cc in ap pos q
+not-negative (negsuc m) n e = cc
+
+negative : (z : ℤ) → sizeOf z ≡ Outside → leZ (pos 0) z ≡ false
+unfolding sizeOf
+negative (pos m) e = cc
+negative (negsuc m) e = refl
+
+up-to : (most : ℕ) (z : ℤ) (n : ℕ) → naturalOf most z ≡ Of n → (upTo most z ≡ true) × (natAbs z ≡ n)
+unfolding naturalOf
+up-to most z n e = go (upTo most z) refl e
+  where
+    go : (b : Bool) → upTo most z ≡ b → cond b (Of (natAbs z)) Outside ≡ Of n → (upTo most z ≡ true) × (natAbs z ≡ n)
+    go true p e = (p, cc)
+    go false p e = (cc, cc)
+
+above : (most : ℕ) (z : ℤ) → naturalOf most z ≡ Outside → upTo most z ≡ false
+unfolding naturalOf
+above most z e = go (upTo most z) refl e
+  where
+    go : (b : Bool) → upTo most z ≡ b → cond b (Of (natAbs z)) Outside ≡ Outside → upTo most z ≡ false
+    go true p e = cc
+    go false p e = p
+
+-- ---- a message
+
+neither : (b : Bool) (m : Message) → none ≡ cond (b && false) (some m) none
+neither true m = refl
+neither false m = refl
+
+module _ {l u t v p w : ℤ} (same-length : u ≡ l) (same-tag : v ≡ t) (same-peer : w ≡ p) where
+  pub no-length : sizeOf u ≡ Outside → none ≡ messageOf (Three l t p)
+  unfolding messageOf
+  no-length e = rw (negative l (rw same-length at e))
+
+  pub no-peer : (n : ℕ) → sizeOf u ≡ Of n → naturalOf 63 w ≡ Outside → none ≡ messageOf (Three l t p)
+  unfolding messageOf
+  no-peer n e h = rw (above 63 p (rw same-peer at h)) (neither (leZ (pos 0) l) _)
+
+  pub good-message : (n m : ℕ) → sizeOf u ≡ Of n → naturalOf 63 w ≡ Of m → some (record { length = n; tag = v; peer = m }) ≡ messageOf (Three l t p)
+  unfolding messageOf
+  good-message n m e h =
+      let a : l ≡ pos n = sym same-length ∙ not-negative u n e in
+      let b = up-to 63 p m (rw same-peer at h) in
+      rw (same-tag, a, leb·zero n, b .0, b .1)
+
+-- ---- the place of a listed record
+
+module _ (h : Head) (fields : Option (List ℕ)) {u : ℤ} (same-processor : u ≡ h .processor) where
+  pub no-processor : naturalOf 63 u ≡ Outside → Refused Fault.Place ≡ listedLine h fields
+  unfolding listedLine placed onPlace
+  no-processor e = rw (above 63 (h .processor) (rw same-processor at e))
+
+  module _ (n : ℕ) (is : naturalOf 63 u ≡ Of n) {v : ℤ} (same-process : v ≡ h .process) where
+    pub no-process : eqZ v (pos 0) ≡ false → Refused Fault.Place ≡ listedLine h fields
+    unfolding listedLine placed onPlace
+    no-process z = let b = up-to 63 (h .processor) n (rw same-processor at is) in rw (b .0, rw same-process at z)
+
+    pub good-place : eqZ v (pos 0) ≡ true → {t k e : ℤ} {d : Data} (part : Part) → t ≡ h .time → k ≡ h .kind → e ≡ h .event → part ≡ partOf k e → d ≡ dataOf (h .count) fields
+        → withData t n part d ≡ listedLine h fields
+    unfolding listedLine placed onPlace
+    good-place z part a b c q r =
+        let m = up-to 63 (h .processor) n (rw same-processor at is) in
+        rw (a, q, b, c, r, m .0, rw same-process at z, m .1)
+
+-- ---- the record put together
+
+pub listed-with : {t u : ℤ} (p : ℕ) (o : Option Role) (role : Role) → u ≡ t → o ≡ some role
+    → Listed (record { time = u; processor = p; role = role }) ≡ withRole t p o
+unfolding withRole
+listed-with p o role e q = rw (e, q)
+
+pub not-with : (t : ℤ) (p : ℕ) (o : Option Role) → o ≡ none → Refused Fault.NoMessage ≡ withRole t p o
+unfolding withRole
+not-with t p o q = rw q
+
+module _ {t u : ℤ} (p : ℕ) (part : Part) (d : Data) (same-time : u ≡ t) (o : Option Role) (is : o ≡ roleOf part d) where
+  pub with-three : {a b c : ℤ} → d ≡ Three a b c → withRole u p o ≡ withData t p part d
+  unfolding withData
+  with-three e = rw (same-time, is, e)
+
+  pub with-others : d ≡ Others → withRole u p o ≡ withData t p part d
+  unfolding withData
+  with-others e = rw (same-time, is, e)
+
+-- ---- the role by the part and the message
+
+module _ (part : Part) (d : Data) where
+  pub role-neither : part ≡ Neither → some Role.Neither ≡ roleOf part d
+  unfolding roleOf
+  role-neither e = rw e
+
+  module _ (r : Note) (is : noteOf r ≡ messageOf d) where
+    pub role-sends : (m : Message) → part ≡ Sends → r ≡ Note.Of m → some (Role.Send m) ≡ roleOf part d
+    unfolding roleOf noteOf
+    role-sends m e q = rw (e, ← is, q)
+
+    pub no-send : part ≡ Sends → r ≡ Note.Nothing → none ≡ roleOf part d
+    unfolding roleOf noteOf
+    no-send e q = rw (e, ← is, q)
+
+    pub role-receives : (m : Message) → part ≡ Receives → r ≡ Note.Of m → some (Role.Receive m) ≡ roleOf part d
+    unfolding roleOf noteOf
+    role-receives m e q = rw (e, ← is, q)
+
+    pub no-receive : part ≡ Receives → r ≡ Note.Nothing → none ≡ roleOf part d
+    unfolding roleOf noteOf
+    no-receive e q = rw (e, ← is, q)
+
+-- three data handed on
+pub three-handed : {a u b v c w : ℤ} (d : Data) → u ≡ a → v ≡ b → w ≡ c → d ≡ Three a b c → messageOf (Three u v w) ≡ messageOf d
+three-handed d p q r e = rw (p, q, r, e)

@@ -1,0 +1,99 @@
+-- A line sorted by its record type and its event type.
+use Prim.Native.Nat.{ℕ, zero, suc, _<_, _≤_}
+use mathlib.Core.Path.{_≡_, refl, sym, ap, _∙_}
+use mathlib.Core.List.{List}
+use mathlib.Core.Bool.{Bool, true, false, cond, _||_}
+use mathlib.Core.Option.{Option, none, some}
+use native.Mathlib.Omega.{arith}
+use lib.ListN.{length, drop, length-drop}
+use lib.IntN.{ℤ, pos, negsuc}
+use lib.Dec.{ltb}
+use borrow.Author.Tests.{lt-ltb, le-ltb, ltb-true, ltb-false}
+use Rattle.paper.specs.Tests.{eqZ}
+use Rattle.paper.specs.Events.{listedKind, standingOf}
+use Rattle.paper.specs.Line.{goodEnd, stepOver, unlisted, sorted, listedLine, Begun, bad, six, begun, lineOf, headOf}
+use Rattle.paper.specs.declared.Choice.{Choice}
+use Rattle.paper.specs.declared.Head.{Head}
+use Rattle.paper.specs.declared.Fault.{Fault}
+use Rattle.paper.specs.declared.Fault.the-variants as Fault
+use Rattle.paper.specs.declared.Standing.{Standing}
+use Rattle.paper.specs.declared.Standing.the-variants as Standing
+use Rattle.paper.specs.declared.Line.{Line}
+use Rattle.paper.specs.declared.Line.the-variants.{Refused, Passed, Listed}
+use Rattle.fields.specs.Cursor.{restAt, begunOf}
+use Rattle.fields.specs.declared.Opening.{Opening}
+use Rattle.fields.specs.declared.Opening.the-variants as Opening
+
+-- ---- the record type
+
+module _ {k u : ℤ} (same : u ≡ k) where
+  pub mark : eqZ u (negsuc 1) ≡ true → true ≡ listedKind k
+  unfolding listedKind
+  mark a = rw (rw same at a)
+
+  pub entry : eqZ u (negsuc 1) ≡ false → eqZ u (negsuc 2) ≡ true → true ≡ listedKind k
+  unfolding listedKind
+  entry a b = rw (rw same at a, rw same at b)
+
+  pub exit : eqZ u (negsuc 1) ≡ false → eqZ u (negsuc 2) ≡ false → eqZ u (negsuc 3) ≡ true → true ≡ listedKind k
+  unfolding listedKind
+  exit a b c = rw (rw same at a, rw same at b, rw same at c)
+
+  pub user : eqZ u (negsuc 1) ≡ false → eqZ u (negsuc 2) ≡ false → eqZ u (negsuc 3) ≡ false → eqZ u (pos 0) ≡ listedKind k
+  unfolding listedKind
+  user a b c = rw (← same, a, b, c)
+
+-- ---- the end of an unlisted line
+
+module _ (l : List ℕ) (next : ℕ) where
+  pub end-none : (n : ℕ) → n ≡ 0 → ltb (length l) next ≡ goodEnd n (restAt l next)
+  unfolding goodEnd restAt
+  end-none zero e = go (ltb (length l) next)
+    where
+      go : (b : Bool) → b ≡ goodEnd zero (cond b none (some (drop next l)))
+      go true = refl
+      go false = refl
+  end-none (suc n) e = absurd (omega arith)
+
+  pub end-some : (n : ℕ) → (n ≡ 0 → ⊥) → ltb next (length l) ≡ goodEnd n (restAt l next)
+  unfolding goodEnd restAt
+  end-some zero z = absurd (z refl)
+  end-some (suc n) z = go (ltb (length l) next) refl
+    where
+      inner : (b : Bool) → ltb next (length l) ≡ b → b ≡ ltb 0 (length (drop next l))
+      inner true e = sym (lt-ltb 0 (length (drop next l)) (simp length-drop (omega (arith, ltb-true next (length l) e))))
+      inner false e = sym (le-ltb 0 (length (drop next l)) (simp length-drop (omega (arith, ltb-false next (length l) e))))
+
+      go : (b : Bool) → ltb (length l) next ≡ b → ltb next (length l) ≡ goodEnd (suc n) (cond b none (some (drop next l)))
+      go true e = le-ltb next (length l) (omega (arith, ltb-true (length l) next e))
+      go false e = inner (ltb next (length l)) refl
+
+-- ---- the line
+
+module _ (choice : Choice) (h : Head) (fields : Option (List ℕ)) where
+  pub end-good : goodEnd (h .count) fields ≡ true → stepOver choice ≡ unlisted choice h fields
+  unfolding unlisted
+  end-good e = rw e
+
+  pub end-bad : goodEnd (h .count) fields ≡ false → Refused Fault.Form ≡ unlisted choice h fields
+  unfolding unlisted
+  end-bad e = rw e
+
+  pub kind-unlisted : listedKind (h .kind) ≡ false → unlisted choice h fields ≡ begun choice (six h fields)
+  unfolding begun
+  kind-unlisted e = rw e
+
+  pub kind-listed : (s : Standing) → listedKind (h .kind) ≡ true → standingOf (h .event) ≡ s → sorted choice h fields s ≡ begun choice (six h fields)
+  unfolding begun
+  kind-listed s e p = rw (e, p)
+
+-- ---- from the head
+
+module _ (choice : Choice) (l : List ℕ) (r : Opening) (is : begunOf l r ≡ headOf l) where
+  pub opened : (h : Head) (next : ℕ) → r ≡ Opening.Six h next → begun choice (six h (restAt l next)) ≡ lineOf choice l
+  unfolding lineOf begunOf
+  opened h next e = ap (begun choice) (sym (ap (begunOf l) e) ∙ is)
+
+  pub not-opened : (fault : Fault) → r ≡ Opening.Bad fault → Refused fault ≡ lineOf choice l
+  unfolding lineOf begunOf begun
+  not-opened fault e = ap (begun choice) (sym (ap (begunOf l) e) ∙ is)

@@ -1,0 +1,129 @@
+// A listed line: "then 9, data (5), 10".
+ghost use mathlib.Core.Path.{_≡_};
+ghost use Rattle.paper.specs.Line.{partOf, messageOf, roleOf, withRole, withData, listedLine};
+ghost use Rattle.fields.specs.Cursor.{restAt};
+ghost use Rattle.line.specs.Sorting.{noteOf, castOf};
+use paper::Data;
+use paper::Fault;
+use paper::Head;
+use paper::Line;
+use paper::Message;
+use paper::Part;
+use paper::Record;
+use paper::Role;
+use signed::Natural;
+
+// A message, or no message.
+pub(crate) enum Note {
+    Of(Message),
+    Nothing,
+}
+
+// A role, or none for a send or receive without its message.
+pub(crate) enum Cast {
+    Of(Role),
+    Nothing,
+}
+
+// "A send is an entry record of -21 .. A receive is an exit record of -51 or -52"
+fn part_of(kind: i64, event: i64) -> Part
+    ensures { λ r. ⌜ r ≡ partOf kind event ⌝ }
+{
+    if signed::same(kind, -3) {
+        if signed::same(event, -21) {
+            return Part::Sends;
+        }
+        return Part::Neither;
+    }
+    if signed::same(kind, -4) {
+        if signed::same(event, -51) {
+            return Part::Receives;
+        }
+        if signed::same(event, -52) {
+            return Part::Receives;
+        }
+    }
+    Part::Neither
+}
+
+// "Length is 0 or more; the named processor is 0 to 63."
+fn three_noted(length: i64, tag: i64, peer: i64) -> Note
+    ensures { λ r. ⌜ noteOf r ≡ messageOf (Data.Three length tag peer) ⌝ }
+{
+    let Natural::Of(bytes) = signed::size(length) else {
+        return Note::Nothing;
+    };
+    let Natural::Of(processor) = signed::up_to(peer, 63) else {
+        return Note::Nothing;
+    };
+    Note::Of(Message {
+        length: bytes as u64,
+        tag: tag,
+        peer: processor,
+    })
+}
+
+fn noted(values: Data) -> Note
+    ensures { λ r. ⌜ noteOf r ≡ messageOf values ⌝ }
+{
+    match values {
+        Data::Malformed => Note::Nothing,
+        Data::Three(length, tag, peer) => three_noted(length, tag, peer),
+        Data::Others => Note::Nothing,
+    }
+}
+
+fn role_of(part: Part, values: Data) -> Cast
+    ensures { λ r. ⌜ castOf r ≡ roleOf part values ⌝ }
+{
+    match part {
+        Part::Neither => Cast::Of(Role::Neither),
+        Part::Sends => match noted(values) {
+            Note::Of(m) => Cast::Of(Role::Send(m)),
+            Note::Nothing => Cast::Nothing,
+        },
+        Part::Receives => match noted(values) {
+            Note::Of(m) => Cast::Of(Role::Receive(m)),
+            Note::Nothing => Cast::Nothing,
+        },
+    }
+}
+
+// "a send or receive without its three good data" is 10
+fn with_role(time: i64, processor: usize, cast: Cast) -> Line
+    ensures { λ r. ⌜ r ≡ withRole time processor (castOf cast) ⌝ }
+{
+    match cast {
+        Cast::Of(role) => Line::Listed(Record {
+            time: time,
+            processor: processor,
+            role: role,
+        }),
+        Cast::Nothing => Line::Refused(Fault::NoMessage),
+    }
+}
+
+// "data (5), 10"
+fn with_data(time: i64, processor: usize, part: Part, values: Data) -> Line
+    ensures { λ r. ⌜ r ≡ withData time processor part values ⌝ }
+{
+    match values {
+        Data::Malformed => Line::Refused(Fault::Form),
+        Data::Three(_, _, _) => with_role(time, processor, role_of(part, values)),
+        Data::Others => with_role(time, processor, role_of(part, values)),
+    }
+}
+
+// "then 9"
+pub(crate) fn listed_line(l: &[u8], h: Head, next: usize) -> Line
+    ensures { λ r. ⌜ r ≡ listedLine h (restAt (now (l .entry)) next) ⌝ }
+{
+    let Natural::Of(processor) = signed::up_to(h.processor, 63) else {
+        return Line::Refused(Fault::Place);
+    };
+    if !signed::same(h.process, 0) {
+        return Line::Refused(Fault::Place);
+    }
+    let values = fields::read_data(l, next, h.count);
+    with_data(h.time, processor, part_of(h.kind, h.event), values)
+}
