@@ -2,3 +2,4 @@ pub mod Fields
 pub mod Stamp
 pub mod Lines
 pub mod Joined
+pub mod Tidy

@@ -1,2 +1,3 @@
 pub mod Retimed
 pub mod Joined
+pub mod Tidy

@@ -1,0 +1,113 @@
+-- "then the first receive in file order that calls for 13 or 14": what `matchedOf` comes to.
+use Prim.Native.Nat.{ℕ, zero, suc, _+_, _≤_, _<_}
+use native.Mathlib.Omega.{arith}
+use native.Mathlib.Decide.{decLt}
+use native.Mathlib.Numerals.{add-one}
+use mathlib.Core.Path.{_≡_, refl, _∙_}
+use mathlib.Core.Logic.{_⊎_, inl, inr}
+use mathlib.Core.Bool.{Bool, true, false, cond}
+use mathlib.Core.Option.{Option, none, some}
+use mathlib.Core.List.{List, []}
+use borrow.Author.Tests.{eqb-true}
+use lib.Dec.{eqb}
+use lib.ListN.{length, drop, drop-of-length-le}
+use lib.Seq.{drop-cons}
+use Rattle.paper.specs.Matching.{entryAt, sendOf, lengthAt, callOf, callFor, onCall, matchedFrom, matchedOf}
+use Rattle.paper.specs.declared.Fault.{Fault}
+use Rattle.paper.specs.declared.Message.{Message}
+use Rattle.paper.specs.declared.Role.the-variants.{Receive}
+use Rattle.paper.specs.declared.Entry.{Entry}
+use Rattle.paper.specs.declared.Stop.the-variants.{End, At}
+use Rattle.matching.proofs.Belong.{roleAt}
+
+-- what the entry at place i calls for
+abbrev pub callAt : List Entry → ℕ → Option Fault
+callAt es i = callFor es i (roleAt es i)
+
+-- entry i is the first that calls for anything
+pub record FirstCall (es : List Entry) (i : ℕ) (fault : Fault) : Type 0 where
+  pub within : i < length es
+  pub calls : callAt es i ≡ some fault
+  pub none-before : (k : ℕ) → k < i → callAt es k ≡ none
+
+abbrev pub NoCall : List Entry → ℕ → Type 0
+NoCall es n = (k : ℕ) → k < n → callAt es k ≡ none
+
+module _ (es : List Entry) where
+  -- the search at one entry, and at the end
+  pub matched-step : (i : ℕ) → i < length es
+      → matchedFrom es i (drop i es) ≡ onCall (callAt es i) (entryAt es i .line) (matchedFrom es (i + 1) (drop (i + 1) es))
+  unfolding matchedFrom entryAt
+  matched-step i h = rw (drop-cons es i (entryAt [] 0), add-one i)
+
+  pub matched-end : (i : ℕ) → length es ≤ i → matchedFrom es i (drop i es) ≡ End
+  unfolding matchedFrom
+  matched-end i h = rw (drop-of-length-le es h)
+
+  -- entries that call for nothing are passed over
+  passed : (i : ℕ) → i ≤ length es → NoCall es i → matchedOf es ≡ matchedFrom es i (drop i es)
+  unfolding matchedOf
+  passed zero h none-before = refl
+  passed (suc i) h none-before =
+      passed i (omega arith) (λ k l. none-before k (omega arith)) ∙ matched-step i (omega arith) ∙ rw (none-before i (omega arith), add-one i)
+
+  -- ---- exactly
+
+  pub no-call-end : NoCall es (length es) → matchedOf es ≡ End
+  no-call-end h = passed (length es) (omega arith) h ∙ matched-end (length es) (omega arith)
+
+  pub first-call-at : (i : ℕ) (fault : Fault) → FirstCall es i fault → matchedOf es ≡ At fault (entryAt es i .line)
+  first-call-at i fault f =
+      passed i (omega (arith, f .within)) (f .none-before) ∙ matched-step i (f .within) ∙ rw (f .calls)
+
+  -- there is a first call, or none
+  pub search : (n : ℕ) → n ≤ length es → NoCall es n ⊎ ((i : ℕ) × (fault : Fault) × FirstCall es i fault)
+  search zero h = inl (λ k l. absurd (omega arith))
+  search (suc n) h = go (search n (omega arith)) (callAt es n) refl
+    where
+      go : NoCall es n ⊎ ((i : ℕ) × (fault : Fault) × FirstCall es i fault) → (o : Option Fault) → callAt es n ≡ o
+          → NoCall es (suc n) ⊎ ((i : ℕ) × (fault : Fault) × FirstCall es i fault)
+      go (inr f) o e = inr f
+      go (inl quiet) none e = inl (λ k l. last k l (decLt k n))
+        where
+          last : (k : ℕ) → k < suc n → Dec (k < n) → callAt es k ≡ none
+          last k l (yes g) = quiet k g
+          last k l (no g) = let z : k ≡ n = omega arith in rw z e
+      go (inl quiet) (some fault) e = inr (n, fault, record { within = omega arith; calls = e; none-before = quiet })
+
+  pub end-no-call : matchedOf es ≡ End → NoCall es (length es)
+  end-no-call h = go (search (length es) (omega arith))
+    where
+      go : NoCall es (length es) ⊎ ((i : ℕ) × (fault : Fault) × FirstCall es i fault) → NoCall es (length es)
+      go (inl quiet) = quiet
+      go (inr (i, fault, f)) =
+          let at = first-call-at i fault f in let z : _≡_ {A = ℕ} 0 1 = cc in absurd (omega arith)
+
+  pub at-first-call : (fault : Fault) (line : ℕ) → matchedOf es ≡ At fault line → (i : ℕ) × FirstCall es i fault × (entryAt es i .line ≡ line)
+  at-first-call fault line h = go (search (length es) (omega arith))
+    where
+      go : NoCall es (length es) ⊎ ((i : ℕ) × (fault : Fault) × FirstCall es i fault) → (i : ℕ) × FirstCall es i fault × (entryAt es i .line ≡ line)
+      go (inl quiet) = let end = no-call-end quiet in let z : _≡_ {A = ℕ} 0 1 = cc in absurd (omega arith)
+      go (inr (i, fault′, f)) =
+          let at = first-call-at i fault′ f in
+          let same : fault′ ≡ fault = cc in
+          let place : entryAt es i .line ≡ line = cc in
+          (i, rw same at f, place)
+
+  -- ---- a receive that calls for nothing has a send of its length
+
+  call-none : (received : ℕ) (o : Option ℕ) → callOf es received o ≡ none → (j : ℕ) × (o ≡ some j) × (received ≡ lengthAt es j)
+  unfolding callOf
+  call-none received none h = let z : _≡_ {A = ℕ} 0 1 = cc in absurd (omega arith)
+  call-none received (some j) h = go (eqb received (lengthAt es j)) refl h
+    where
+      go : (t : Bool) → eqb received (lengthAt es j) ≡ t → cond t none (some Fault.OtherLength) ≡ none
+          → (k : ℕ) × (some j ≡ some k) × (received ≡ lengthAt es k)
+      go true e g = (j, refl, eqb-true _ _ e)
+      go false e g = let z : _≡_ {A = ℕ} 0 1 = cc in absurd (omega arith)
+
+  -- "and where all match, every receive has a send"
+  pub every-receive : matchedOf es ≡ End → (i : ℕ) → i < length es → (m : Message) → roleAt es i ≡ Receive m
+      → (j : ℕ) × (sendOf es i ≡ some j) × (m .length ≡ lengthAt es j)
+  unfolding callFor
+  every-receive h i l m r = call-none (m .length) (sendOf es i) (rw r at (end-no-call h i l))

@@ -1,0 +1,173 @@
+-- The loop over the lines: what holds at its head, the ways out, and a line listed or passed over.
+use Prim.Native.Nat.{ℕ, zero, suc, _+_, _-_, _*_, _/_, _≤_, _<_}
+use mathlib.Core.Path.{_≡_, refl, sym, ap, _∙_}
+use mathlib.Core.List.{List, [], _∷_, _++_, append-assoc, append-nil}
+use mathlib.Core.Bool.{Bool, true, false, cond}
+use native.Mathlib.Numerals.{add-one}
+use native.Mathlib.Nat.{add-suc}
+use native.Mathlib.Omega.{arith}
+use lib.ListN.{length, take, drop, getD, set, length-append, length-drop, length-set, drop-of-length-le}
+use lib.Seq.{take-length, drop-drop, append-snoc}
+use lib.IntN.{ℤ, pos}
+use lib.Signed.{ltZ}
+use borrow.Author.Tests.{le-leb, lt-leb}
+use Rattle.bytes.specs.Bytes.{indexOf, slice}
+use Rattle.paper.specs.Line.{lineOf}
+use Rattle.paper.specs.Reading.{Lines, done, unended, ended, linesOf, State, Reading, start, checked, withListed, withPassed, withEntry, onLine, readFrom, readOf}
+use Rattle.paper.specs.declared.Choice.{Choice}
+use Rattle.paper.specs.declared.Fault.{Fault}
+use Rattle.paper.specs.declared.Fault.the-variants as Fault
+use Rattle.paper.specs.declared.Record.{Record}
+use Rattle.paper.specs.declared.Entry.{Entry}
+use Rattle.paper.specs.declared.Line.{Line}
+use Rattle.paper.specs.declared.Line.the-variants.{Refused, Passed, Listed}
+use Rattle.paper.specs.declared.Stop.{Stop}
+use Rattle.paper.specs.declared.Stop.the-variants.{End, At}
+use Rattle.reading.specs.Joined.{behind}
+use Rattle.reading.proofs.Lines.{first-line, no-line}
+use Rattle.reading.proofs.Tidy.{tidy-record}
+use Rattle.store.specs.Layout.{laid, putAt}
+use Rattle.store.proofs.Laws.{length-laid, put-laid}
+use Rattle.trace.specs.Read.{ReadInto, answerOf, storeAfter}
+
+-- the state by its parts
+abbrev pub state : List ℤ → ℕ → ℕ → State
+state last listed passed = record { last = last; listed = listed; passed = passed }
+
+-- At the loop's head: the records put so far, and what is left to read gives with them the whole reading.
+pub record Going (choice : Choice) (s : List ℕ) (store₀ : List ℤ) (most : ℕ) (store last : List ℤ) (listed passed at n : ℕ) : Type 0 where
+  pub room : most ≡ length store₀ / 7
+  pub long : length store ≡ length store₀
+  pub wide : length last ≡ 64
+  pub inside : at ≤ length s
+  pub line : n ≤ at + 1
+  pub counts : listed + passed ≤ at
+  pub put : List Entry
+  pub many : length put ≡ listed
+  pub holds : store ≡ laid put ++ drop (7 * listed) store₀
+  pub reads : behind put (readFrom choice most (linesOf (drop at s)) n (state last listed passed)) ≡ readOf choice most s
+
+pub going-start : (choice : Choice) (s : List ℕ) (store₀ : List ℤ) (most : ℕ) → most ≡ length store₀ / 7
+    → Going choice s store₀ most store₀ (start .last) 0 0 0 1
+unfolding start readOf laid
+going-start choice s store₀ most e =
+    record {
+      room = e;
+      long = refl;
+      wide = refl;
+      inside = omega arith;
+      line = omega arith;
+      counts = omega arith;
+      put = [];
+      many = refl;
+      holds = refl;
+      reads = refl;
+    }
+
+module _ {choice : Choice} {s : List ℕ} {store₀ : List ℤ} {most : ℕ} {store last : List ℤ} {listed passed at n : ℕ}
+    (going : Going choice s store₀ most store last listed passed at n) where
+  -- where the reading from here on ends at once
+  stopped : (x : Stop) → readFrom choice most (linesOf (drop at s)) n (state last listed passed) ≡ record { stop = x; entries = []; state = state last listed passed }
+      → ReadInto choice s store₀ (record { stop = x; listed = listed; passed = passed }) store
+  unfolding answerOf storeAfter
+  stopped x e =
+      let whole : behind (going .put) (record { stop = x; entries = []; state = state last listed passed }) ≡ readOf choice (length store₀ / 7) s =
+      rw (going .room) at (sym (ap (behind (going .put)) e) ∙ going .reads) in
+      record {
+        answer = rw (← whole);
+        holds = rw (← whole) (rw (append-nil, going .many) (going .holds));
+      }
+
+  pub at-end : length s ≤ at → ReadInto choice s store₀ (record { stop = End; listed = listed; passed = passed }) store
+  unfolding readFrom linesOf
+  at-end h = stopped End (rw (drop-of-length-le s h))
+
+  -- the search for the LF, with some bytes left
+  module _ (end : ℕ) (some-left : at < length s) (found : end ≡ at + indexOf 10 (slice at (length s) s)) where
+    place : end ≡ at + indexOf 10 (drop at s)
+    place = let e : slice at (length s) s ≡ drop at s = unfold slice in rw take-length in rw e at found
+
+    -- "no LF at its end (5)"
+    pub at-unended : end ≡ length s → ReadInto choice s store₀ (record { stop = At Fault.Form n; listed = listed; passed = passed }) store
+    unfolding readFrom
+    at-unended e = stopped (At Fault.Form n) (rw (no-line (drop at s) (simp length-drop (omega arith)) (simp length-drop (omega (arith, place)))))
+
+    module _ (is-line : end ≡ length s → ⊥) (within : end ≤ length s) where
+      line-bytes : take (end - at) (drop at s) ≡ take (indexOf 10 (drop at s)) (drop at s)
+      line-bytes = let e : end - at ≡ indexOf 10 (drop at s) = omega (arith, place) in rw e
+
+      later-bytes : drop (suc (indexOf 10 (drop at s))) (drop at s) ≡ drop (end + 1) s
+      later-bytes = rw (place, add-one, ← add-suc) (drop-drop (suc (indexOf 10 (drop at s))) at s)
+
+      cut : linesOf (drop at s) ≡ ended (take (end - at) (drop at s)) (linesOf (drop (end + 1) s))
+      cut = first-line (drop at s) (simp length-drop (omega (arith, place))) ∙ rw (← line-bytes, later-bytes)
+
+      -- what the line comes to, and the lines after it
+      onward : readFrom choice most (linesOf (drop at s)) n (state last listed passed)
+          ≡ onLine n (state last listed passed) (checked most (state last listed passed) (lineOf choice (take (end - at) (drop at s))))
+          (λ st. readFrom choice most (linesOf (drop (end + 1) s)) (n + 1) st)
+      unfolding readFrom
+      onward = rw cut
+
+      module _ (x : Line) (is : x ≡ lineOf choice (take (end - at) (drop at s))) where
+        refuses : (fault : Fault) → checked most (state last listed passed) x ≡ Refused fault
+            → ReadInto choice s store₀ (record { stop = At fault n; listed = listed; passed = passed }) store
+        unfolding onLine
+        refuses fault e = stopped (At fault n) (onward ∙ rw (← is, e))
+
+        pub line-refused : (fault : Fault) → x ≡ Refused fault
+            → ReadInto choice s store₀ (record { stop = At fault n; listed = listed; passed = passed }) store
+        unfolding checked
+        line-refused fault e = refuses fault (rw e)
+
+        pub line-passed : x ≡ Passed → Going choice s store₀ most store last listed (passed + 1) (end + 1) (n + 1)
+        unfolding onLine checked withPassed
+        line-passed e =
+            record {
+              room = going .room;
+              long = going .long;
+              wide = going .wide;
+              inside = omega arith;
+              line = omega (arith, going .line, place);
+              counts = omega (arith, going .counts, place);
+              put = going .put;
+              many = going .many;
+              holds = going .holds;
+              reads = ap (behind (going .put)) (sym (onward ∙ rw (← is, e))) ∙ going .reads;
+            }
+
+        module _ (r : Record) (lists : x ≡ Listed r) (early : Bool) (tells : early ≡ ltZ (r .time) (getD last (r .processor) (pos 0))) where
+          pub line-backwards : early ≡ true
+              → ReadInto choice s store₀ (record { stop = At Fault.Backwards n; listed = listed; passed = passed }) store
+          unfolding checked
+          line-backwards e = refuses Fault.Backwards (rw (lists, sym tells ∙ e))
+
+          module _ (not-early : early ≡ false) where
+            in-order : ltZ (r .time) (getD last (r .processor) (pos 0)) ≡ false
+            in-order = sym tells ∙ not-early
+
+            pub line-too-many : most ≤ listed → ReadInto choice s store₀ (record { stop = At Fault.TooMany n; listed = listed; passed = passed }) store
+            unfolding checked
+            line-too-many h = refuses Fault.TooMany (rw (lists, in-order, le-leb most listed h))
+
+            pub line-listed : listed < most → (store₁ : List ℤ) → store₁ ≡ putAt store listed (record { line = n; body = r }) → length store₁ ≡ length store → {u : ℤ} → u ≡ r .time
+                → Going choice s store₀ most store₁ (set last (r .processor) u) (listed + 1) passed (end + 1) (n + 1)
+            unfolding onLine checked withListed
+            line-listed h store₁ puts same-long {u} same-time =
+                let e : Entry = record { line = n; body = r } in
+                record {
+                  room = going .room;
+                  long = same-long ∙ going .long;
+                  wide = length-set last (r .processor) u ∙ going .wide;
+                  inside = omega arith;
+                  line = omega (arith, going .line, place);
+                  counts = omega (arith, going .counts, place);
+                  put = going .put ++ (e ∷ []);
+                  many = simp length-append (omega (arith, going .many));
+                  holds = puts ∙ rw (going .holds, ← going .many) (put-laid (going .put) e store₀ (omega (arith, going .many, going .room)));
+                  reads = rw (same-time, append-snoc) (ap (behind (going .put)) (sym (onward ∙ rw (← is, lists, in-order, lt-leb most listed h))) ∙ going .reads);
+                }
+
+-- a listed record's processor is one of the sixty-four
+pub processor-in : (choice : Choice) (l : List ℕ) (x : Line) → x ≡ lineOf choice l → (r : Record) → x ≡ Listed r → r .processor < 64
+processor-in choice l x is r e = tidy-record choice l r (sym is ∙ e) .processor
