@@ -1,0 +1,67 @@
+-- The three ways to stop computing round after round, and what each shows. None of the rounds before was repeated.
+use Prim.Native.Nat.{ℕ, zero, suc, _-_, _≤_, _<_}
+use native.Mathlib.Omega.{arith}
+use native.Mathlib.Decide.{decLt}
+use mathlib.Core.Path.{_≡_, sym}
+use mathlib.Core.List.{List}
+use lib.ListN.{length}
+use lib.IntN.{ℤ}
+use lib.Signed.{_≤ℤ_, _<ℤ_, clashℤ}
+use Rattle.paper.specs.Clock.{Waits, Sound, Least, limit, round, Repeats, timeAt, Settled, impossible, settled}
+use Rattle.rounds.specs.Meaning.{Closed, Means}
+use Rattle.rounds.proofs.Order.{≤ℤ-trans}
+use Rattle.rounds.proofs.Next.{next-same}
+use Rattle.rounds.proofs.Rounds.{next-sound, sound-next, round-below, repeat-least}
+use Rattle.rounds.proofs.Bound.{repeats-late}
+
+-- no round before round k is repeated
+abbrev pub NoneBefore : Waits → ℕ → Type 0
+NoneBefore w k = (m : ℕ) → m < k → Repeats w m → ⊥
+
+pub none-more : (w : Waits) (k : ℕ) → NoneBefore w k → (Repeats w k → ⊥) → NoneBefore w (suc k)
+none-more w k before here m l repeats = go (decLt m k)
+  where
+    go : Dec (m < k) → ⊥
+    go (yes less) = before m less repeats
+    go (no more) = let e : m ≡ k = omega arith in here (rw e at repeats)
+
+module _ (w : Waits) (closed : Closed w) where
+  -- where sound times exist, that is at most the last record's round
+  pub none-early : {s : ℕ → ℤ} → Sound w s → (k : ℕ) → NoneBefore w k → k ≤ w .size - 1
+  none-early sound zero before = omega arith
+  none-early {s} sound (suc k) before =
+      let late : ¬ (w .size ≤ suc k) = λ l. before k (omega arith) (repeats-late w closed s sound k l) in
+      omega arith
+
+  -- what is least stays so where the same times are told otherwise
+  least-same : (x y : ℕ → ℤ) → ((i : ℕ) → i < w .size → x i ≡ y i) → Least w x → Least w y
+  least-same x y e least = record {
+    sound = sound-next w y
+        (λ i i<. rw (← e i i<, next-same w closed y x (λ j j<. sym (e j j<)) i i<) (next-sound (least .sound) i i<))
+        (λ i i<. rw (e i i<) at (least .sound .within i i<));
+    least = λ z sound i i<. rw (e i i<) at (least .least z sound i i<);
+  }
+
+  -- round k, in xs, is repeated and within the limit
+  pub stop-settled : (k : ℕ) (xs : List ℤ) → NoneBefore w k → Repeats w k → length xs ≡ w .size → ((i : ℕ) → i < w .size → round w k i ≡ timeAt xs i)
+      → ((i : ℕ) → i < w .size → timeAt xs i ≤ℤ limit) → Means w (settled k xs)
+  unfolding Means
+  stop-settled k xs before repeats size times within =
+      let least = repeat-least w closed k repeats (λ i i<. rw (times i i<) (within i i<)) in
+      record {
+        size = size;
+        least = least-same (round w k) (timeAt xs) times least;
+        repeats = repeats;
+        first = before;
+        bound = none-early (least .sound) k before;
+      }
+
+  -- a time of round k is above the limit
+  pub stop-high : (k i : ℕ) → i < w .size → limit <ℤ round w k i → Means w impossible
+  unfolding Means
+  stop-high k i i< high s sound = clashℤ high (≤ℤ-trans (round-below w closed sound k i i<) (sound .within i i<))
+
+  -- as many rounds as there are records, and none was repeated
+  pub stop-late : (k : ℕ) → NoneBefore w k → w .size ≤ k → 0 < k → Means w impossible
+  unfolding Means
+  stop-late k before late some s sound = omega (arith, none-early sound k before)

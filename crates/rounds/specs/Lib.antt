@@ -1,0 +1,2 @@
+-- What the answer to the clock condition means.
+pub mod Meaning
