@@ -8,15 +8,14 @@ use mathlib.Core.Bool.{cond}
 use lib.ListN.{length}
 use lib.Seq.{ext-getD}
 use lib.IntN.{ℤ, pos}
-use lib.Signed.{_≤ℤ_}
 use lib.Dec.{T}
-use Rattle.paper.specs.Clock.{Waits, Sound, limit, next, round, Repeats, listed, timeAt, same, withinLimit, Settled, impossible, settled, settledFrom, settle}
+use Rattle.paper.specs.Clock.{Waits, Sound, next, round, Repeats, listed, timeAt, same, withinLimit, Settled, impossible, settled, settledFrom, settle}
 use Rattle.rounds.specs.Meaning.{Closed, Answer, Means}
-use Rattle.rounds.proofs.Order.{test, ≤ℤ-trans}
+use Rattle.rounds.proofs.Order.{test}
 use Rattle.rounds.proofs.Next.{next-same}
-use Rattle.rounds.proofs.Rounds.{round-below, least-unique}
+use Rattle.rounds.proofs.Rounds.{least-unique}
 use Rattle.rounds.proofs.Lists.{length-listed, listed-at, listed-same, same-equal, equal-same, within-at, at-within}
-use Rattle.rounds.proofs.Stops.{NoneBefore, none-more, stop-settled, stop-late}
+use Rattle.rounds.proofs.Stops.{NoneBefore, none-more, stop-settled, stop-high, stop-late}
 
 module _ (w : Waits) (closed : Closed w) where
   -- round k as a list
@@ -38,12 +37,11 @@ module _ (w : Waits) (closed : Closed w) where
 
   -- the first repeated round is the answer, or is above the limit somewhere and with it every sound set
   found : (k : ℕ) → NoneBefore w k → Repeats w k → Means w (cond (withinLimit (list k)) (settled k (list k)) impossible)
-  unfolding Means
   found k before repeats =
       let size : length (list k) ≡ w .size = length-listed (w .size) (round w k) in
       test (Means w) (withinLimit (list k)) (settled k (list k)) impossible
       (λ h. stop-settled w closed k (list k) before repeats size (λ i i<. sym (list-at k i i<)) (λ i i<. within-at (list k) h i (omega arith)))
-      (λ h s sound. h (at-within (list k) (λ i i<. rw (list-at k i (omega arith)) (≤ℤ-trans (round-below w closed sound k i (omega arith)) (sound .within i (omega arith))))))
+      (λ h. stop-high w closed k (λ within. h (at-within (list k) (λ i i<. rw (list-at k i (omega arith)) (within i (omega arith))))))
 
   settled-from : (more k : ℕ) → NoneBefore w k → w .size ≤ more + k → 0 < more + k → Means w (settledFrom w more k (list k))
   unfolding settledFrom

@@ -6,7 +6,7 @@ use mathlib.Core.Path.{_≡_, sym}
 use mathlib.Core.List.{List}
 use lib.ListN.{length}
 use lib.IntN.{ℤ}
-use lib.Signed.{_≤ℤ_, _<ℤ_, clashℤ}
+use lib.Signed.{_≤ℤ_}
 use Rattle.paper.specs.Clock.{Waits, Sound, Least, limit, round, Repeats, timeAt, Settled, impossible, settled}
 use Rattle.rounds.specs.Meaning.{Closed, Means}
 use Rattle.rounds.proofs.Order.{≤ℤ-trans}
@@ -56,10 +56,10 @@ module _ (w : Waits) (closed : Closed w) where
         bound = none-early (least .sound) k before;
       }
 
-  -- a time of round k is above the limit
-  pub stop-high : (k i : ℕ) → i < w .size → limit <ℤ round w k i → Means w impossible
+  -- round k is not within the limit
+  pub stop-high : (k : ℕ) → (((i : ℕ) → i < w .size → round w k i ≤ℤ limit) → ⊥) → Means w impossible
   unfolding Means
-  stop-high k i i< high s sound = clashℤ high (≤ℤ-trans (round-below w closed sound k i i<) (sound .within i i<))
+  stop-high k high s sound = high (λ i i<. ≤ℤ-trans (round-below w closed sound k i i<) (sound .within i i<))
 
   -- as many rounds as there are records, and none was repeated
   pub stop-late : (k : ℕ) → NoneBefore w k → w .size ≤ k → 0 < k → Means w impossible

@@ -1,0 +1,2 @@
+-- What the engine of the clock condition answers.
+pub mod Engine
