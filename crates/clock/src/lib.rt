@@ -7,7 +7,7 @@ ghost use mathlib.Core.Bool.{not};
 ghost use lib.ListN.{length};
 ghost use Rattle.paper.specs.Clock as paper;
 ghost use Rattle.paper.specs.Clock.{timeAt, waited, next};
-ghost use Rattle.clock.specs.Engine.{place, waitsOf, outcome, outcomeOf, allAre, Told, Low, Sized, Ready, Turned, Started, Stepped, front, Ended};
+ghost use Rattle.clock.specs.Engine.{place, waitsOf, outcome, told, outcomeOf, allAre, Told, Low, Sized, Ready, Turned, Started, Stepped, front, Ended};
 
 // The largest time that the format holds.
 const LIMIT: i64 = 999_999_999_999_999;
@@ -176,6 +176,31 @@ fn rounds(
     }
 }
 
+// The answer into both slices; where there is none, the originals.
+fn answer(
+    originals: &[i64],
+    before: &[usize],
+    send: &[usize],
+    latency: &[u32],
+    times: &mut [i64],
+    spare: &mut [i64],
+) -> Settled
+    requires { ⌜ Sized (now originals) (now before) (now send) (now latency) ⌝ }
+    requires { ⌜ length (now times) ≡ length (now originals) ⌝ }
+    requires { ⌜ length (now spare) ≡ length (now originals) ⌝ }
+    ensures { λ r. ⌜ outcome r (now (times .exit)) (now (spare .exit)) ≡ told (now (originals .entry)) (paper.settle (waitsOf (now (originals .entry)) (now (before .entry)) (now (send .entry)) (now (latency .entry)))) ⌝ }
+{
+    let run = rounds(originals, before, send, latency, times, spare);
+    match run {
+        Run::At(k) => Settled::Rounds(k),
+        Run::Never => {
+            start(originals, times);
+            start(originals, spare);
+            Settled::Impossible
+        },
+    }
+}
+
 // Whether all the lengths are n.
 fn fit(n: usize, before: usize, send: usize, latency: usize, times: usize, spare: usize) -> bool
     ensures { λ r. ⌜ r ≡ allAre n (before ∷ send ∷ latency ∷ times ∷ spare ∷ []) ⌝ }
@@ -199,7 +224,7 @@ fn fit(n: usize, before: usize, send: usize, latency: usize, times: usize, spare
 }
 
 // The least sound times of the records whose originals are lent, into `times` and `spare`. Record i waits for the record at
-// before[i], the one before it on its processor, and for the one at send[i], with a latency; a place past the end is none.
+// before[i], the one before it on its processor, and for its send at send[i] with latency[i]; a place past the end is none.
 pub fn settle(
     originals: &[i64],
     before: &[usize],
@@ -210,7 +235,7 @@ pub fn settle(
 ) -> Settled
     ensures { λ r. ⌜ outcome r (now (times .exit)) (now (spare .exit)) ≡ outcomeOf (now (originals .entry)) (now (before .entry)) (now (send .entry)) (now (latency .entry)) (now (times .entry)) (now (spare .entry)) ⌝ }
 {
-    if !fit(
+    if fit(
         originals.len(),
         before.len(),
         send.len(),
@@ -218,15 +243,7 @@ pub fn settle(
         times.len(),
         spare.len(),
     ) {
-        return Settled::Misfit;
+        return answer(originals, before, send, latency, times, spare);
     }
-    let run = rounds(originals, before, send, latency, times, spare);
-    match run {
-        Run::At(k) => Settled::Rounds(k),
-        Run::Never => {
-            start(originals, times);
-            start(originals, spare);
-            Settled::Impossible
-        },
-    }
+    Settled::Misfit
 }

@@ -9,51 +9,37 @@ use Rattle.paper.specs.Clock.{timeAt, next}
 use Rattle.clock.specs.Engine.{waitsOf}
 use Rattle.clock.proofs.next_at.Statement.{statement}
 use Rattle.clock.proofs.next_at.Tie as tie
-use Rattle.clock.proofs.next_at.Reads as reads
-use Rattle.clock.proofs.next_at.Lts as lts
-use Rattle.clock.proofs.after.Reads as after-reads
 
--- src/lib.rt:66:25
 mul-after : tie.Need-mul-after
 mul-after c = search needs
 
--- src/lib.rt:66:25
 shared-slice-read-after : tie.Need-shared-slice-read-after
 shared-slice-read-after c = search needs
 
--- src/lib.rt:66:39
 mul-after-2 : tie.Need-mul-after-2
 mul-after-2 c = search needs
 
--- src/lib.rt:66:39
 shared-slice-copy-out-after : tie.Need-shared-slice-copy-out-after
 shared-slice-copy-out-after c = search needs
 
--- src/lib.rt:66:9
 after-requires : tie.Need-after-requires
 after-requires c κs = c .before .before .before .before .before .pre .1 .0 .low
 
--- src/lib.rt:67:17
 mul-after-3 : tie.Need-mul-after-3
 mul-after-3 c = search needs
 
--- src/lib.rt:67:17
 shared-slice-read-after-2 : tie.Need-shared-slice-read-after-2
 shared-slice-read-after-2 c = search needs
 
--- src/lib.rt:67:26
 mul-after-4 : tie.Need-mul-after-4
 mul-after-4 c = search needs
 
--- src/lib.rt:67:26
 shared-slice-read-after-3 : tie.Need-shared-slice-read-after-3
 shared-slice-read-after-3 c = search needs
 
--- src/lib.rt:67:5
 after-requires-2 : tie.Need-after-requires-2
 after-requires-2 c κs = c .before .before .before .before .before .before .before .before .pre .1 .0 .low
 
--- src/lib.rt:60:1
 returns : tie.Need-returns
 unfolding next waitsOf
 returns c =

@@ -16,9 +16,6 @@ use Rattle.clock.proofs.Tests.{passed, failed}
 use Rattle.clock.proofs.Turning.{Turning, turn-none, turn-over, turn-good, turn-bad, turned-same, turned-moved}
 use Rattle.clock.proofs.round.Statement.{statement}
 use Rattle.clock.proofs.round.Tie as tie
-use Rattle.clock.proofs.round.Reads as reads
-use Rattle.clock.proofs.round.Lts as lts
-use Rattle.clock.proofs.next_at.Reads as next-at-reads
 
 abbrev Inv-loop : tie.InvT-loop
 Inv-loop originals before send latency from to₀ same₀ i₀ to same i =
@@ -27,19 +24,15 @@ Inv-loop originals before send latency from to₀ same₀ i₀ to same i =
 abbrev μ-loop : tie.MeasureT-loop
 μ-loop originals before send latency from to₀ same₀ i₀ to same i = length originals - i
 
--- src/lib.rt:79:5
 loop-holds : tie.Need-loop-holds Inv-loop μ-loop
 loop-holds c = (omega arith, omega arith, turn-none _ _ _)
 
--- src/lib.rt:80:13
 next-at-requires : tie.Need-next-at-requires Inv-loop μ-loop
 next-at-requires c κs = search needs
 
--- src/lib.rt:82:13
 same-length : tie.Need-same-length Inv-loop μ-loop
 same-length c = search needs
 
--- src/lib.rt:82:13
 returns : tie.Need-returns Inv-loop μ-loop
 unfolding waitsOf
 returns c =
@@ -47,31 +40,24 @@ returns c =
     let fr : SFits w64 (c .before .next-at .result) = record { sfits = c .before .next-at .ok } in
     turn-over _ _ _ (at .i) (c .before .before .loop-test .taken) _ (c .before .next-at .ensures) (passed limit _ (simp (toZ-ofZ, fr) at (c .if1 .taken)))
 
--- src/lib.rt:84:20
 mul-if2 : tie.Need-mul-if2 Inv-loop μ-loop
 mul-if2 c = search needs
 
--- src/lib.rt:84:20
 shared-slice-copy-out-if2 : tie.Need-shared-slice-copy-out-if2 Inv-loop μ-loop
 shared-slice-copy-out-if2 c = search needs
 
--- src/lib.rt:87:9
 mul-time : tie.Need-mul-time Inv-loop μ-loop
 mul-time c = search needs
 
--- src/lib.rt:87:9
 slice-set-from-time : tie.Need-slice-set-from-time Inv-loop μ-loop
 slice-set-from-time c = search needs
 
--- src/lib.rt:88:9
 add-i : tie.Need-add-i Inv-loop μ-loop
 add-i c = search needs
 
--- src/lib.rt:79:5
 loop-less : tie.Need-loop-less Inv-loop μ-loop
 loop-less c = search needs
 
--- src/lib.rt:79:5
 loop-again : tie.Need-loop-again Inv-loop μ-loop
 loop-again c =
     let at = c .before .before .before .before .before .loop in
@@ -88,22 +74,18 @@ loop-again c =
           (c .if2 .came)),
     )
 
--- src/lib.rt:91:9
 same-length-2 : tie.Need-same-length-2 Inv-loop μ-loop
 same-length-2 c = search needs
 
--- src/lib.rt:91:9
 returns-2 : tie.Need-returns-2 Inv-loop μ-loop
 unfolding waitsOf
 returns-2 c =
     let at = c .before .before .loop in
     turned-same _ _ (omega arith) (at .inv .1) (c .before .before .before .before .before .before .pre .1 .0 .size) (rw (c .if3 .taken) at (at .inv .2))
 
--- src/lib.rt:71:1
 same-length-3 : tie.Need-same-length-3 Inv-loop μ-loop
 same-length-3 c = search needs
 
--- src/lib.rt:71:1
 returns-3 : tie.Need-returns-3 Inv-loop μ-loop
 unfolding waitsOf
 returns-3 c =

@@ -16,8 +16,6 @@ use Rattle.clock.proofs.Tests.{passed, failed}
 use Rattle.clock.proofs.Filling.{Filling, fill-none, fill-good, fill-bad, filled-same}
 use Rattle.clock.proofs.start.Statement.{statement}
 use Rattle.clock.proofs.start.Tie as tie
-use Rattle.clock.proofs.start.Reads as reads
-use Rattle.clock.proofs.start.Lts as lts
 
 abbrev Inv-loop : tie.InvT-loop
 Inv-loop originals to₀ low₀ i₀ to low i =
@@ -26,35 +24,27 @@ Inv-loop originals to₀ low₀ i₀ to low i =
 abbrev μ-loop : tie.MeasureT-loop
 μ-loop originals to₀ low₀ i₀ to low i = length originals - i
 
--- src/lib.rt:103:5
 loop-holds : tie.Need-loop-holds Inv-loop μ-loop
 loop-holds c = (omega arith, omega arith, fill-none _ _ _)
 
--- src/lib.rt:104:20
 mul-time : tie.Need-mul-time Inv-loop μ-loop
 mul-time c = search needs
 
--- src/lib.rt:104:20
 shared-slice-copy-out-time : tie.Need-shared-slice-copy-out-time Inv-loop μ-loop
 shared-slice-copy-out-time c = search needs
 
--- src/lib.rt:108:9
 mul-time-2 : tie.Need-mul-time-2 Inv-loop μ-loop
 mul-time-2 c = search needs
 
--- src/lib.rt:108:9
 slice-set-from-time : tie.Need-slice-set-from-time Inv-loop μ-loop
 slice-set-from-time c = search needs
 
--- src/lib.rt:109:9
 add-i : tie.Need-add-i Inv-loop μ-loop
 add-i c = search needs
 
--- src/lib.rt:103:5
 loop-less : tie.Need-loop-less Inv-loop μ-loop
 loop-less c = search needs
 
--- src/lib.rt:103:5
 loop-again : tie.Need-loop-again Inv-loop μ-loop
 loop-again c =
     let at = c .before .before .before .loop in
@@ -70,11 +60,9 @@ loop-again c =
           (c .if1 .came)),
     )
 
--- src/lib.rt:97:1
 same-length : tie.Need-same-length Inv-loop μ-loop
 same-length c = search needs
 
--- src/lib.rt:97:1
 returns : tie.Need-returns Inv-loop μ-loop
 returns c =
     let at = c .before .loop in

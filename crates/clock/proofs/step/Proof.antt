@@ -3,45 +3,34 @@ use mathlib.Core.Path.{refl}
 use borrow.Author.Needs.{needs}
 use Rattle.clock.proofs.step.Statement.{statement}
 use Rattle.clock.proofs.step.Tie as tie
-use Rattle.clock.proofs.step.Reads as reads
-use Rattle.clock.proofs.step.Lts as lts
-use Rattle.clock.proofs.round.Reads as round-reads
 
--- src/lib.rt:131:9
 round-requires : tie.Need-round-requires
 round-requires c κs =
     let pre = c .before .before .before .before .before .before .pre in
     (pre .0, (rw (c .before .before .if1 .taken) at (pre .1 .0), pre .1 .1 .1))
 
--- src/lib.rt:131:9
 same-length : tie.Need-same-length
 same-length c = search needs
 
--- src/lib.rt:131:9
 same-length-2 : tie.Need-same-length-2
 same-length-2 c = search needs
 
--- src/lib.rt:131:9
 returns : tie.Need-returns
 returns c =
     rw (c .before .before .before .before .if1 .taken)
     (record { kept = refl; turned = c .before .round .ensures })
 
--- src/lib.rt:133:5
 round-requires-2 : tie.Need-round-requires-2
 round-requires-2 c κs =
     let pre = c .before .before .before .before .before .before .pre in
     (pre .0, (rw (c .before .before .if1 .left) at (pre .1 .0), pre .1 .1 .0))
 
--- src/lib.rt:115:1
 same-length-3 : tie.Need-same-length-3
 same-length-3 c = search needs
 
--- src/lib.rt:115:1
 same-length-4 : tie.Need-same-length-4
 same-length-4 c = search needs
 
--- src/lib.rt:115:1
 returns-2 : tie.Need-returns-2
 returns-2 c =
     rw (c .before .before .before .before .if1 .left)
