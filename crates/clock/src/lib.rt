@@ -46,8 +46,9 @@ fn after(from: &[i64], j: usize, weight: u32, a: i64) -> i64
     ensures { λ r. ⌜ r ≡ waited (timeAt (now (from .entry))) (place (length (now (from .entry))) j) weight a ⌝ }
 {
     if j < from.len() {
-        let t = from[j] + (weight as i64);
-        return later(a, t);
+        let sent = from[j];
+        let arrived = sent + (weight as i64);
+        return later(a, arrived);
     }
     a
 }
