@@ -177,18 +177,30 @@ fn misfit(name: &[u8]) {
     run(name, &[1, 2], &[NONE, 0], &[NONE], &[0, 0]);
 }
 
-fn main() {
+fn samples() {
     trace_a(b"P1 ", 5);
     first_three(b"P2 ");
     trace_a(b"P3 ", 0);
     empty(b"P5 ");
     trace_b(b"P6 ", 0);
     trace_b(b"P7 ", 1);
+}
+
+fn long_waits() {
     turned_b(b"B with lines 3 and 4 first: ");
     ring(b"ring of 64, latencies 0: ", 0);
     ring(b"ring of 64, latencies 1: ", 1);
     chain(b"chain of 2048: ");
+}
+
+fn edges() {
     limit(b"largest time, latency 0: ", 0);
     limit(b"largest time, latency 1: ", 1);
     misfit(b"a send too few: ");
+}
+
+fn main() {
+    samples();
+    long_waits();
+    edges();
 }
