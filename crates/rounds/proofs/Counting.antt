@@ -1,8 +1,10 @@
--- How many of the first n numbers a rule sends to b or less.
+-- The numbers below n: how many of them a rule sends to b or less, and whether one of them is of a kind.
 use Prim.Native.Nat.{ℕ, zero, suc, _+_, _-_, _≤_, _<_, min, zero-le}
 use native.Mathlib.Omega.{arith}
 use native.Mathlib.Decide.{decLt}
 use mathlib.Core.Path.{_≡_, ap}
+use mathlib.Core.Logic.{_⊎_, inl, inr}
+use borrow.Author.Count.{below-more}
 
 unfoldable pub count : ℕ → (ℕ → ℕ) → ℕ → ℕ
 count zero f b = 0
@@ -31,3 +33,13 @@ module _ (f g : ℕ → ℕ) (b c : ℕ) (up : b ≤ c) where
       go : (i < n → count n f b < count n g c) → Dec (i < n) → min 1 (suc b - f n) + count n f b < min 1 (suc c - g n) + count n g c
       go earlier (yes l) = omega (arith, low n (omega arith), earlier l)
       go earlier (no nl) = let e : i ≡ n = omega arith in omega (arith, ap f e, ap g e, count-mono n rest)
+
+-- one of them is of the one kind, or all are of the other
+pub some-or-all : (P Q : ℕ → Type 0) → ((i : ℕ) → P i ⊎ Q i) → (n : ℕ) → ((i : ℕ) × (i < n) × P i) ⊎ ((i : ℕ) → i < n → Q i)
+some-or-all P Q kind zero = inr (λ i l. absurd (omega arith))
+some-or-all P Q kind (suc n) = go (some-or-all P Q kind n) (kind n)
+  where
+    go : ((i : ℕ) × (i < n) × P i) ⊎ ((i : ℕ) → i < n → Q i) → P n ⊎ Q n → ((i : ℕ) × (i < suc n) × P i) ⊎ ((i : ℕ) → i < suc n → Q i)
+    go (inl (i, l, p)) here = inl (i, omega arith, p)
+    go (inr all) (inl p) = inl (n, omega arith, p)
+    go (inr all) (inr q) = inr (λ i l. below-more Q n all q i (omega arith))

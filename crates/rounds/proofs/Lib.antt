@@ -8,3 +8,6 @@ pub mod Bound
 pub mod Lists
 pub mod Stops
 pub mod Meaning
+pub mod Latency
+pub mod Prefix
+pub mod Still

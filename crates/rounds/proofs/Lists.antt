@@ -24,6 +24,10 @@ pub listed-same : (n : ℕ) (f g : ℕ → ℤ) → ((i : ℕ) → i < n → f i
 listed-same zero f g e = refl
 listed-same (suc n) f g e = rw (e zero (omega arith), listed-same n (λ i. f (suc i)) (λ i. g (suc i)) (λ i l. e (suc i) (omega arith)))
 
+pub listed-times : (xs : List ℤ) → listed (length xs) (timeAt xs) ≡ xs
+listed-times [] = refl
+listed-times (x ∷ xs) = ap (λ (ys : List ℤ). x ∷ ys) (listed-times xs)
+
 -- two tests, one after the other
 both : (a b : Bool) → T (cond a b false) → T a × T b
 both true b h = (tt, h)

@@ -11,9 +11,9 @@ use lib.IntN.{ℤ, pos}
 use lib.Dec.{T}
 use Rattle.paper.specs.Clock.{Waits, Sound, next, round, Repeats, listed, timeAt, same, withinLimit, Settled, impossible, settled, settledFrom, settle}
 use Rattle.rounds.specs.Meaning.{Closed, Answer, Means}
-use Rattle.rounds.proofs.Order.{test}
+use Rattle.rounds.proofs.Order.{test, ≤ℤ-trans}
 use Rattle.rounds.proofs.Next.{next-same}
-use Rattle.rounds.proofs.Rounds.{least-unique}
+use Rattle.rounds.proofs.Rounds.{round-below, repeat-least, least-unique}
 use Rattle.rounds.proofs.Lists.{length-listed, listed-at, listed-same, same-equal, equal-same, within-at, at-within}
 use Rattle.rounds.proofs.Stops.{NoneBefore, none-more, stop-settled, stop-high, stop-late}
 
@@ -60,7 +60,7 @@ module _ (w : Waits) (closed : Closed w) where
 
 -- ---- only one answer means so
 
-answers-equal : {w : Waits} {k m : ℕ} {xs ys : List ℤ} → Answer w k xs → Answer w m ys → settled k xs ≡ settled m ys
+pub answers-equal : {w : Waits} {k m : ℕ} {xs ys : List ℤ} → Answer w k xs → Answer w m ys → settled k xs ≡ settled m ys
 answers-equal {w} {k} {m} {xs} {ys} a b =
     let not-before : ¬ (k < m) = λ l. b .first k l (a .repeats) in
     let not-after : ¬ (m < k) = λ l. a .first m l (b .repeats) in
@@ -84,6 +84,20 @@ impossible-iff w closed =
     (λ e. rw e at (settle-means w closed), λ none. sym (means-settle w closed impossible none))
 
 -- what a settled answer says
-pub settled-answer : (w : Waits) → Closed w → (k : ℕ) (xs : List ℤ) → settle w ≡ settled k xs → Answer w k xs
+pub settled-answer : (w : Waits) → Closed w → {k : ℕ} {xs : List ℤ} → settle w ≡ settled k xs → Answer w k xs
 unfolding Means
-settled-answer w closed k xs e = rw e at (settle-means w closed)
+settled-answer w closed e = rw e at (settle-means w closed)
+
+-- its times are those of its round
+pub settled-round : (w : Waits) → Closed w → {k : ℕ} {xs : List ℤ} → Answer w k xs → (i : ℕ) → i < w .size → timeAt xs i ≡ round w k i
+settled-round w closed {k} a =
+    least-unique (a .least) (repeat-least w closed k (a .repeats) (λ i i<. ≤ℤ-trans (round-below w closed (a .least .sound) k i i<) (a .least .sound .within i i<)))
+
+-- where sound times exist there is one
+pub sound-settles : (w : Waits) → Closed w → {s : ℕ → ℤ} → Sound w s → (k : ℕ) × (xs : List ℤ) × (settle w ≡ settled k xs)
+unfolding Means
+sound-settles w closed {s} sound = go (settle w) refl
+  where
+    go : (a : Settled) → settle w ≡ a → (k : ℕ) × (xs : List ℤ) × (settle w ≡ settled k xs)
+    go impossible e = absurd (impossible-iff w closed .0 e s sound)
+    go (settled k xs) e = (k, xs, e)

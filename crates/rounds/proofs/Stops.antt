@@ -1,10 +1,10 @@
 -- The three ways to stop computing round after round, and what each shows. None of the rounds before was repeated.
 use Prim.Native.Nat.{ℕ, zero, suc, _-_, _≤_, _<_}
 use native.Mathlib.Omega.{arith}
-use native.Mathlib.Decide.{decLt}
 use mathlib.Core.Path.{_≡_, sym}
 use mathlib.Core.List.{List}
 use lib.ListN.{length}
+use borrow.Author.Count.{below-more}
 use lib.IntN.{ℤ}
 use lib.Signed.{_≤ℤ_}
 use Rattle.paper.specs.Clock.{Waits, Sound, Least, limit, round, Repeats, timeAt, Settled, impossible, settled}
@@ -19,11 +19,7 @@ abbrev pub NoneBefore : Waits → ℕ → Type 0
 NoneBefore w k = (m : ℕ) → m < k → Repeats w m → ⊥
 
 pub none-more : (w : Waits) (k : ℕ) → NoneBefore w k → (Repeats w k → ⊥) → NoneBefore w (suc k)
-none-more w k before here m l repeats = go (decLt m k)
-  where
-    go : Dec (m < k) → ⊥
-    go (yes less) = before m less repeats
-    go (no more) = let e : m ≡ k = omega arith in here (rw e at repeats)
+none-more w k before here m l = below-more (λ m. Repeats w m → ⊥) k before here m (omega arith)
 
 module _ (w : Waits) (closed : Closed w) where
   -- where sound times exist, that is at most the last record's round
@@ -33,14 +29,14 @@ module _ (w : Waits) (closed : Closed w) where
       let late : ¬ (w .size ≤ suc k) = λ l. before k (omega arith) (repeats-late w closed s sound k l) in
       omega arith
 
-  -- what is least stays so where the same times are told otherwise
+  -- what is sound, and what is least, stays so where the same times are told otherwise
+  pub sound-same : (x y : ℕ → ℤ) → ((i : ℕ) → i < w .size → x i ≡ y i) → Sound w x → Sound w y
+  sound-same x y e sound =
+      sound-next w y (λ i i<. rw (← e i i<, next-same w closed y x (λ j j<. sym (e j j<)) i i<) (next-sound sound i i<))
+      (λ i i<. rw (e i i<) at (sound .within i i<))
+
   least-same : (x y : ℕ → ℤ) → ((i : ℕ) → i < w .size → x i ≡ y i) → Least w x → Least w y
-  least-same x y e least = record {
-    sound = sound-next w y
-        (λ i i<. rw (← e i i<, next-same w closed y x (λ j j<. sym (e j j<)) i i<) (next-sound (least .sound) i i<))
-        (λ i i<. rw (e i i<) at (least .sound .within i i<));
-    least = λ z sound i i<. rw (e i i<) at (least .least z sound i i<);
-  }
+  least-same x y e least = record { sound = sound-same x y e (least .sound); least = λ z sound i i<. rw (e i i<) at (least .least z sound i i<) }
 
   -- round k, in xs, is repeated and within the limit
   pub stop-settled : (k : ℕ) (xs : List ℤ) → NoneBefore w k → Repeats w k → length xs ≡ w .size → ((i : ℕ) → i < w .size → round w k i ≡ timeAt xs i)
