@@ -11,3 +11,5 @@ pub mod Meaning
 pub mod Latency
 pub mod Prefix
 pub mod Still
+pub mod Chain
+pub mod Rings

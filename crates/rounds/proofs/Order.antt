@@ -71,6 +71,11 @@ sum-le {a} {b} {v} {u} h k =
     le-height floor (a +ℤ pos v) (b +ℤ pos u) (omega (arith, depth-add b u))
     (omega (arith, height-le floor h, height-add floor a v (omega arith), height-add floor b u (omega arith)))
 
+pub sum-back : (a b : ℤ) (v : ℕ) → (a +ℤ pos v) ≤ℤ (b +ℤ pos v) → a ≤ℤ b
+sum-back a b v h =
+    let floor = depth a + depth b in
+    le-height floor a b (omega arith) (omega (arith, height-le floor h, height-add floor a v (omega arith), height-add floor b v (omega arith)))
+
 -- either order
 pub compare : {X : Type 0} (a b : ℤ) → (a <ℤ b → X) → (b ≤ℤ a → X) → X
 compare {X} a b less more = test (λ (u : Unit {0}). X) (ltZ a b) tt tt (λ h. less (ltZ-yes h)) (λ h. more (ltZ-no (not-T (ltZ a b) h)))
