@@ -1,5 +1,5 @@
 -- A loop that fills a slice from the front by a rule and keeps in a flag whether something held at every place.
-use Prim.Native.Nat.{ℕ, _+_, _≤_, _<_}
+use Prim.Native.Nat.{ℕ, _+_, _<_}
 use native.Mathlib.Omega.{arith}
 use mathlib.Core.Path.{_≡_, _∙_}
 use mathlib.Core.List.{List}
@@ -9,7 +9,7 @@ use lib.Seq.{ext-getD, getD-set-same, getD-set-other}
 use lib.IntN.{ℤ, pos}
 use borrow.Author.Count.{below-more}
 use Rattle.paper.specs.Clock.{timeAt}
-use Rattle.clock.specs.Engine.{Told}
+use Rattle.clock.specs.Inner.{Told}
 
 told-good : (P : ℕ → Type 0) (flag : Bool) (i : ℕ) → Told flag P i → P i → Told flag P (i + 1)
 told-good P true i all here = below-more P i all here

@@ -1,19 +1,17 @@
 -- The loop of rounds: a slice holds round k, and none before it was repeated. Each way out is one of the theory's stops.
-use Prim.Native.Nat.{ℕ, zero, suc, _+_, _≤_, _<_}
+use Prim.Native.Nat.{ℕ, suc, _+_, _≤_, _<_}
 use native.Mathlib.Omega.{arith}
 use native.Mathlib.Numerals.{add-one}
-use mathlib.Core.Path.{_≡_, refl, sym, _∙_}
+use mathlib.Core.Path.{_≡_, sym, _∙_}
 use mathlib.Core.List.{List}
-use lib.ListN.{length}
 use lib.IntN.{ℤ}
-use lib.Signed.{_≤ℤ_}
-use Rattle.paper.specs.Clock.{Waits, limit, next, round, Repeats, timeAt, settled, impossible, settle}
+use Rattle.paper.specs.Clock.{Waits, next, round, Repeats, timeAt, settled, impossible, settle}
 use Rattle.rounds.specs.Meaning.{Closed}
 use Rattle.rounds.proofs.Next.{next-same}
 use Rattle.rounds.proofs.Stops.{NoneBefore, none-more, stop-settled, stop-high, stop-late}
 use Rattle.rounds.proofs.Meaning.{means-settle}
 use Rattle.clock.specs.declared.Turn.the-variants.{Over, Same, Moved}
-use Rattle.clock.specs.Engine.{Ready, Turned}
+use Rattle.clock.specs.Inner.{Ready, Turned}
 
 pub record Going (w : Waits) (k : ℕ) (xs : List ℤ) : Type 0 where
   pub ready : Ready (w .size) xs

@@ -12,7 +12,8 @@ use Rattle.paper.specs.Clock.{settled, impossible}
 use Rattle.clock.specs.declared.Settled.{Settled}
 use Rattle.clock.specs.declared.Settled.the-variants.{Rounds, Impossible, Misfit}
 use Rattle.clock.specs.declared.Run.the-variants.{At, Never}
-use Rattle.clock.specs.Engine.{waitsOf, Outcome, outcome, allAre, told, outcomeOf, Ended}
+use Rattle.clock.specs.Promise.{waitsOf, outcome, allAre, told, outcomeOf}
+use Rattle.clock.specs.Inner.{Ended}
 
 -- ---- the ways out
 

@@ -13,7 +13,8 @@ use Rattle.rounds.proofs.Meaning.{means-settle}
 use Rattle.clock.specs.declared.Turn.{Turn}
 use Rattle.clock.specs.declared.Turn.the-variants.{Over, Same, Moved}
 use Rattle.clock.specs.declared.Run.the-variants.{At, Never}
-use Rattle.clock.specs.Engine.{waitsOf, front, Turned, Started, Stepped, Ended}
+use Rattle.clock.specs.Promise.{waitsOf}
+use Rattle.clock.specs.Inner.{front, Started, Stepped, Ended}
 use Rattle.clock.proofs.Waiting.{closed}
 use Rattle.clock.proofs.Going.{Going, going-none, going-over, going-same, going-on, going-late}
 

@@ -10,7 +10,7 @@ use lib.Signed.{_≤ℤ_, _<ℤ_, clashℤ}
 use borrow.Author.Count.{below-more}
 use Rattle.paper.specs.Clock.{Waits, limit, timeAt, next}
 use Rattle.clock.specs.declared.Turn.the-variants.{Over, Same, Moved}
-use Rattle.clock.specs.Engine.{Turned, Ready}
+use Rattle.clock.specs.Inner.{Turned}
 use Rattle.clock.proofs.Filling.{Filling, fill-none, fill-good, fill-bad, filled-same}
 
 -- record k keeps its time

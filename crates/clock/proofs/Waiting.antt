@@ -1,7 +1,7 @@
 -- Places of records in slices, and the waits that they make.
 use Prim.Native.Nat.{ℕ, suc, _-_, _^_, _≤_, _<_}
 use native.Mathlib.Omega.{arith}
-use mathlib.Core.Path.{_≡_, refl}
+use mathlib.Core.Path.{_≡_}
 use mathlib.Core.Option.{none, some}
 use mathlib.Core.List.{List}
 use lib.IntN.{ℤ, pos, negsuc, _+ℤ_}
@@ -9,9 +9,9 @@ use lib.Signed.{mag, _≤ℤ_}
 use lib.Dec.{ltb, leb→le, ltb→lt}
 use borrow.Author.Tests.{lt-ltb, le-ltb}
 use Rattle.paper.specs.Clock.{limit}
-use Rattle.rounds.specs.Meaning.{Wait, on-before, on-send, Closed}
+use Rattle.rounds.specs.Meaning.{on-before, on-send, Closed}
 use Rattle.rounds.proofs.Order.{test}
-use Rattle.clock.specs.Engine.{place, waitsOf}
+use Rattle.clock.specs.Promise.{place, waitsOf}
 
 pub place-at : {j n : ℕ} → j < n → place n j ≡ some j
 place-at {j} {n} l = rw (lt-ltb j n l)

@@ -1,13 +1,13 @@
 // The engine of the clock condition: round after round over the lent slices until one repeats. specs/ says what a call leaves
 // behind, in terms of the paper's `settle`.
-ghost use Prim.Native.Nat.{ℕ, _<_};
+ghost use Prim.Native.Nat.{_<_};
 ghost use mathlib.Core.Path.{_≡_};
 ghost use mathlib.Core.List.{[], _∷_};
-ghost use mathlib.Core.Bool.{not};
 ghost use lib.ListN.{length};
 ghost use Rattle.paper.specs.Clock as paper;
 ghost use Rattle.paper.specs.Clock.{timeAt, waited, next};
-ghost use Rattle.clock.specs.Engine.{place, waitsOf, outcome, told, outcomeOf, allAre, Told, Low, Sized, Ready, Turned, Started, Stepped, front, Ended};
+ghost use Rattle.clock.specs.Promise.{place, waitsOf, outcome, told, outcomeOf, allAre};
+ghost use Rattle.clock.specs.Inner.{Low, Sized, Ready, Turned, Started, Stepped, front, Ended};
 
 // The largest time that the format holds.
 const LIMIT: i64 = 999_999_999_999_999;

@@ -2,8 +2,6 @@
 -- at its room below the sound set. A record that round k moves has at least k + 1 records, itself among them, with no more room.
 use Prim.Native.Nat.{ℕ, zero, suc, _+_, _≤_, _<_}
 use native.Mathlib.Omega.{arith}
-use native.Mathlib.Decide.{decLt}
-use mathlib.Core.Path.{_≡_}
 use lib.IntN.{ℤ}
 use lib.Signed.{_≤ℤ_, clashℤ}
 use Rattle.paper.specs.Clock.{Waits, Sound, round, Repeats}

@@ -1,11 +1,11 @@
 -- Why a record moved: a record that a round moves waits for one that the round before moved.
 use Prim.Native.Nat.{ℕ, zero, suc, _≤_, _<_}
 use native.Mathlib.Omega.{arith}
-use mathlib.Core.Path.{_≡_, refl, sym}
-use lib.IntN.{ℤ, pos, _+ℤ_}
-use lib.Signed.{_≤ℤ_, _<ℤ_, ≤ℤ-refl, clashℤ}
-use Rattle.paper.specs.Clock.{Waits, next, round}
-use Rattle.rounds.specs.Meaning.{Wait, Closed}
+use mathlib.Core.Path.{_≡_, refl}
+use lib.IntN.{pos, _+ℤ_}
+use lib.Signed.{_≤ℤ_, _<ℤ_, clashℤ}
+use Rattle.paper.specs.Clock.{Waits, round}
+use Rattle.rounds.specs.Meaning.{Wait}
 use Rattle.rounds.proofs.Order.{≤ℤ-trans, compare, sum-le}
 use Rattle.rounds.proofs.Next.{next-is, next-wait}
 use Rattle.rounds.proofs.Rounds.{round-above}

@@ -2,17 +2,17 @@
 use Prim.Native.Nat.{ℕ, zero, suc, _≤_, _<_, zero-le}
 use native.Mathlib.Omega.{arith}
 use native.Mathlib.Decide.{decLe}
-use mathlib.Core.Path.{_≡_, refl, sym, _∙_}
+use mathlib.Core.Path.{_≡_, sym, _∙_}
 use mathlib.Core.List.{List}
 use lib.IntN.{ℤ, pos, _+ℤ_}
-use lib.Signed.{_≤ℤ_, _<ℤ_, ≤ℤ-refl, clashℤ}
-use Rattle.paper.specs.Clock.{Waits, Sound, next, round, timeAt, settled, settle}
+use lib.Signed.{_≤ℤ_, ≤ℤ-refl, clashℤ}
+use Rattle.paper.specs.Clock.{Waits, Sound, round, timeAt, settled, settle}
 use Rattle.rounds.specs.Meaning.{Wait, Closed}
 use Rattle.rounds.specs.Chain.{LastMoved, Chain, own, after}
 use Rattle.rounds.proofs.Order.{≤ℤ-trans, ≤ℤ-antisym, compare, sum-le, sum-back}
 use Rattle.rounds.proofs.Next.{next-wait}
 use Rattle.rounds.proofs.Rounds.{sound-wait, round-up, round-below}
-use Rattle.rounds.proofs.Cause.{Moves, Cause, moved-by}
+use Rattle.rounds.proofs.Cause.{Moves, moved-by}
 use Rattle.rounds.proofs.Meaning.{settled-answer, settled-round}
 
 module _ (w : Waits) (closed : Closed w) (x : ℕ → ℤ) (sound : Sound w x) where
@@ -23,8 +23,8 @@ module _ (w : Waits) (closed : Closed w) (x : ℕ → ℤ) (sound : Sound w x) w
   last-moved (suc m) i i< e =
       compare (round w m i) (x i) (λ less. (suc m, omega arith, (less, e)))
       (λ back.
-        let before = last-moved m i i< (≤ℤ-antisym (round-below w closed sound m i i<) back) in
-        (before .0, omega (arith, before .1), before .2))
+      let before = last-moved m i i< (≤ℤ-antisym (round-below w closed sound m i i<) back) in
+      (before .0, omega (arith, before .1), before .2))
 
   -- one wait back: the cause of its last move moved last in the round before
   pub record Step (k i : ℕ) : Type 0 where
@@ -46,7 +46,7 @@ module _ (w : Waits) (closed : Closed w) (x : ℕ → ℤ) (sound : Sound w x) w
       let low = sound-wait sound i< (c .wait) in
       let told : x i ≡ round w k (c .on) +ℤ pos (c .weight) = sym e ∙ c .time in
       let there : round w k (c .on) ≡ x (c .on) =
-        ≤ℤ-antisym (round-below w closed sound k (c .on) on<) (sum-back (x (c .on)) (round w k (c .on)) (c .weight) (rw told at low)) in
+      ≤ℤ-antisym (round-below w closed sound k (c .on) on<) (sum-back (x (c .on)) (round w k (c .on)) (c .weight) (rw told at low)) in
       record { on = c .on; weight = c .weight; wait = c .wait; time = told ∙ rw there; last = came k (c .on) (c .moves) there }
 
   -- so as many waits as that round lead back to an original

@@ -1,7 +1,6 @@
 -- Larger latencies, all else the same: no time is earlier, and what is impossible stays so.
 use Prim.Native.Nat.{ℕ, _≤_, _<_}
-use native.Mathlib.Omega.{arith}
-use mathlib.Core.Path.{_≡_, sym, _∙_}
+use mathlib.Core.Path.{_≡_, _∙_}
 use mathlib.Core.List.{List}
 use lib.IntN.{ℤ}
 use lib.Signed.{_≤ℤ_, ≤ℤ-refl}
@@ -23,8 +22,8 @@ module _ (w v : Waits) (slower : Slower w v) where
   slower-sound {s} sound =
       sound-of w s (λ i i<. rw (slower .original i i<) at (sound .above i (rw (slower .size) i<))) (λ i i<. sound .within i (rw (slower .size) i<))
       (λ i j x i< wait.
-        let more = heavier i< wait in
-        ≤ℤ-trans (sum-le (≤ℤ-refl (s j)) (more .1)) (sound-wait sound (rw (slower .size) i<) (more .2)))
+      let more = heavier i< wait in
+      ≤ℤ-trans (sum-le (≤ℤ-refl (s j)) (more .1)) (sound-wait sound (rw (slower .size) i<) (more .2)))
 
   module _ (cw : Closed w) (cv : Closed v) where
     -- no time is earlier

@@ -6,7 +6,7 @@ use mathlib.Core.Path.{_≡_, refl}
 use mathlib.Core.Option.{Option, none, some}
 use lib.IntN.{ℤ, pos, _+ℤ_}
 use lib.Signed.{_≤ℤ_, ≤ℤ-refl}
-use Rattle.paper.specs.Clock.{Waits, later, waited, next}
+use Rattle.paper.specs.Clock.{Waits, waited, next}
 use Rattle.rounds.specs.Meaning.{Wait, on-before, on-send, Closed}
 use Rattle.rounds.proofs.Order.{≤ℤ-trans, ≤ℤ-antisym, later-is, sum-le}
 

@@ -4,9 +4,8 @@ use native.Mathlib.Omega.{arith}
 use mathlib.Core.Path.{_≡_, sym, _∙_}
 use mathlib.Core.List.{List}
 use lib.IntN.{ℤ}
-use lib.Signed.{_≤ℤ_}
-use Rattle.paper.specs.Clock.{Waits, Least, limit, next, round, Repeats, timeAt, settled, settle}
-use Rattle.rounds.specs.Meaning.{Closed, Answer}
+use Rattle.paper.specs.Clock.{Waits, Least, next, round, Repeats, timeAt, settled, settle}
+use Rattle.rounds.specs.Meaning.{Closed}
 use Rattle.rounds.specs.Compare.{First}
 use Rattle.rounds.proofs.Next.{next-same}
 use Rattle.rounds.proofs.Rounds.{repeat-least, least-unique}

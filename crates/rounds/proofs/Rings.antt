@@ -1,12 +1,11 @@
 -- "Equal times are good": a ring of waits that weigh nothing has times, all of them equal if it binds them all.
-use Prim.Native.Nat.{ℕ, zero, suc, _<_}
-use native.Mathlib.Omega.{arith}
+use Prim.Native.Nat.{ℕ, _<_}
 use mathlib.Core.Path.{_≡_, refl}
-use mathlib.Core.Option.{Option, none, some}
+use mathlib.Core.Option.{none, some}
 use mathlib.Core.List.{List, [], _∷_}
 use lib.ListN.{getD}
-use lib.IntN.{ℤ, pos, _+ℤ_}
-use lib.Signed.{_≤ℤ_, ≤ℤ-refl, leZ-yes}
+use lib.IntN.{ℤ, pos}
+use lib.Signed.{_≤ℤ_, ≤ℤ-refl}
 use Rattle.paper.specs.Clock.{Waits, limit, next, same, withinLimit, timeAt, settledFrom, settle, settled, impossible}
 use Rattle.rounds.specs.Meaning.{Wait, Closed}
 use Rattle.rounds.proofs.Rounds.{sound-of}
@@ -26,7 +25,7 @@ ring latencies = record {
   before = λ i. getD (none ∷ some 0 ∷ none ∷ some 2 ∷ []) i none;
   gap = λ i. 0;
   send = λ i. getD (some 3 ∷ none ∷ some 1 ∷ none ∷ []) i none;
-  latency = λ i. getD latencies i 0
+  latency = λ i. getD latencies i 0;
 }
 
 pub ring-settles : settle (ring []) ≡ settled 3 (pos 4 ∷ pos 4 ∷ pos 4 ∷ pos 4 ∷ [])

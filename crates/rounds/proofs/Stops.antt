@@ -7,7 +7,7 @@ use lib.ListN.{length}
 use borrow.Author.Count.{below-more}
 use lib.IntN.{ℤ}
 use lib.Signed.{_≤ℤ_}
-use Rattle.paper.specs.Clock.{Waits, Sound, Least, limit, round, Repeats, timeAt, Settled, impossible, settled}
+use Rattle.paper.specs.Clock.{Waits, Sound, Least, limit, round, Repeats, timeAt, impossible, settled}
 use Rattle.rounds.specs.Meaning.{Closed, Means}
 use Rattle.rounds.proofs.Order.{≤ℤ-trans}
 use Rattle.rounds.proofs.Next.{next-same}

@@ -30,5 +30,5 @@ retimed w x = record {
   before = w .before;
   gap = w .gap;
   send = w .send;
-  latency = w .latency
+  latency = w .latency;
 }

@@ -1,6 +1,6 @@
 -- The lengths compared one by one.
 use borrow.Author.Tests.{eq-eqb, ne-eqb}
-use Rattle.clock.specs.Engine.{allAre}
+use Rattle.clock.specs.Promise.{allAre}
 use Rattle.clock.proofs.fit.Statement.{statement}
 use Rattle.clock.proofs.fit.Tie as tie
 

@@ -1,12 +1,12 @@
 -- The next time of a record: it waits for the record before it, then for its send.
-use mathlib.Core.Path.{_≡_, _∙_}
+use mathlib.Core.Path.{_∙_}
 use mir.Syntax.{w64}
 use mir.Val.{SFits}
 use mir.Facts.{toZ-ofZ}
 use denote.Ref.{now}
 use borrow.Author.Needs.{needs}
 use Rattle.paper.specs.Clock.{timeAt, next}
-use Rattle.clock.specs.Engine.{waitsOf}
+use Rattle.clock.specs.Promise.{waitsOf}
 use Rattle.clock.proofs.next_at.Statement.{statement}
 use Rattle.clock.proofs.next_at.Tie as tie
 

@@ -11,7 +11,7 @@ use mir.Facts.{toZ-ofZ}
 use denote.Ref.{now}
 use borrow.Author.Needs.{needs}
 use Rattle.paper.specs.Clock.{limit, timeAt}
-use Rattle.clock.specs.Engine.{waitsOf}
+use Rattle.clock.specs.Promise.{waitsOf}
 use Rattle.clock.proofs.Tests.{passed, failed}
 use Rattle.clock.proofs.Turning.{Turning, turn-none, turn-over, turn-good, turn-bad, turned-same, turned-moved}
 use Rattle.clock.proofs.round.Statement.{statement}

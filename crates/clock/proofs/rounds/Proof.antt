@@ -1,12 +1,12 @@
 -- The loop of rounds.
-use Prim.Native.Nat.{_≤_, _<_, _-_}
+use Prim.Native.Nat.{_≤_, _-_}
 use native.Mathlib.Omega.{arith}
 use mathlib.Core.Path.{_≡_}
 use lib.ListN.{length}
-use denote.Ref.{now}
 use borrow.Author.Needs.{needs}
 use borrow.Author.Tests.{not-true, not-false}
-use Rattle.clock.specs.Engine.{waitsOf, front, Ended}
+use Rattle.clock.specs.Promise.{waitsOf}
+use Rattle.clock.specs.Inner.{front}
 use Rattle.clock.proofs.Going.{Going}
 use Rattle.clock.proofs.Stepping.{step-over, step-same, step-on, step-late, start-low, start-high}
 use Rattle.clock.proofs.rounds.Statement.{statement}

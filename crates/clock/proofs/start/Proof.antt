@@ -11,7 +11,7 @@ use mir.Facts.{toZ-ofZ}
 use denote.Ref.{now}
 use borrow.Author.Needs.{needs}
 use Rattle.paper.specs.Clock.{limit, timeAt}
-use Rattle.clock.specs.Engine.{Within}
+use Rattle.clock.specs.Inner.{Within}
 use Rattle.clock.proofs.Tests.{passed, failed}
 use Rattle.clock.proofs.Filling.{Filling, fill-none, fill-good, fill-bad, filled-same}
 use Rattle.clock.proofs.start.Statement.{statement}

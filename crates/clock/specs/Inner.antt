@@ -1,59 +1,17 @@
--- The engine's promises: the waits that its slices stand for, and all that a call leaves behind.
-use Prim.Native.Nat.{ℕ, _≤_, _<_}
+-- What the engine's own functions tell each other.
+use Prim.Native.Nat.{ℕ, _<_}
 use mathlib.Core.Path.{_≡_}
-use mathlib.Core.Option.{Option, none, some}
-use mathlib.Core.List.{List, [], _∷_}
+use mathlib.Core.List.{List}
 use mathlib.Core.Bool.{Bool, true, false, cond, not}
-use lib.ListN.{length, getD}
+use lib.ListN.{length}
 use lib.IntN.{ℤ}
 use lib.Signed.{_≤ℤ_}
-use lib.Dec.{ltb, eqb}
 use Rattle.paper.specs.Clock as paper
 use Rattle.paper.specs.Clock.{Waits, limit, timeAt, next, settled, impossible}
-use Rattle.clock.specs.declared.Settled.{Settled}
-use Rattle.clock.specs.declared.Settled.the-variants.{Rounds, Impossible, Misfit}
 use Rattle.clock.specs.declared.Turn.{Turn}
 use Rattle.clock.specs.declared.Turn.the-variants.{Over, Same, Moved}
 use Rattle.clock.specs.declared.Run.{Run}
 use Rattle.clock.specs.declared.Run.the-variants.{At, Never}
-
--- the record at this place of n, none from n on
-abbrev pub place : ℕ → ℕ → Option ℕ
-place n j = cond (ltb j n) (some j) none
-
--- for each record its original, the place of the record before it, the place of its send, and the latency from there
-unfoldable pub waitsOf : List ℤ → (before send latency : List ℕ) → Waits
-waitsOf originals before send latency = record {
-  size = length originals;
-  original = timeAt originals;
-  before = λ i. place (length originals) (getD before i 0);
-  gap = λ i. 0;
-  send = λ i. place (length originals) (getD send i 0);
-  latency = λ i. getD latency i 0;
-}
-
--- ---- the whole outcome of a call
-
-pub data Outcome : Type 0 where
-  outcome : (answer : Settled) (times spare : List ℤ) → Outcome
-
--- whether each of these is n
-unfoldable pub allAre : ℕ → List ℕ → Bool
-allAre n [] = true
-allAre n (m ∷ ms) = cond (eqb m n) (allAre n ms) false
-
--- the paper's answer in both slices; where there is none, the originals
-unfoldable pub told : List ℤ → paper.Settled → Outcome
-told originals impossible = outcome Impossible originals originals
-told originals (settled k xs) = outcome (Rounds k) xs xs
-
-unfoldable pub outcomeOf : List ℤ → (before send latency : List ℕ) → (times spare : List ℤ) → Outcome
-outcomeOf originals before send latency times spare =
-    cond (allAre (length originals) (length before ∷ length send ∷ length latency ∷ length times ∷ length spare ∷ []))
-    (told originals (paper.settle (waitsOf originals before send latency)))
-    (outcome Misfit times spare)
-
--- ---- what the engine's own functions tell each other
 
 -- whether P holds of every number below i
 abbrev pub Told : Bool → (ℕ → Type 0) → ℕ → Type 0
