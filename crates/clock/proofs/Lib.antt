@@ -5,4 +5,5 @@ pub mod Filling
 pub mod Turning
 pub mod Going
 pub mod Stepping
+pub mod Lengths
 pub mod Outcomes

@@ -26,20 +26,22 @@ module _ (w : Waits) (xs : List ℤ) where
   pub turn-none : (to : List ℤ) → Turning w xs to true 0
   turn-none to = record { filling = fill-none _ _ to; low = λ k l. absurd (omega arith) }
 
-  -- a time above the limit
-  pub turn-over : (ys : List ℤ) (i : ℕ) → i < w .size → (v : ℤ) → v ≡ next w (timeAt xs) i → limit <ℤ v → Turned w xs Over ys
-  unfolding Turned
-  turn-over ys i l v e high low = clashℤ high (rw e (low i l))
+  module _ {to : List ℤ} {same : Bool} {i : ℕ} (t : Turning w xs to same i) (v : ℤ) (e : v ≡ next w (timeAt xs) i) where
+    -- a time above the limit
+    pub turn-over : i < w .size → limit <ℤ v → Turned w xs Over to
+    unfolding Turned
+    turn-over i< high low = clashℤ high (rw e (low i i<))
 
-  module _ {to : List ℤ} {same : Bool} {i : ℕ} (t : Turning w xs to same i) (l : i < length to) (v : ℤ) (e : v ≡ next w (timeAt xs) i) (low : v ≤ℤ limit) where
-    low-more : (k : ℕ) → k < i + 1 → next w (timeAt xs) k ≤ℤ limit
-    low-more = below-more (λ k. next w (timeAt xs) k ≤ℤ limit) i (t .low) (rw e at low)
+    -- a time within it, put in its place
+    module _ (l : i < length to) (low : v ≤ℤ limit) where
+      low-more : (k : ℕ) → k < i + 1 → next w (timeAt xs) k ≤ℤ limit
+      low-more = below-more (λ k. next w (timeAt xs) k ≤ℤ limit) i (t .low) (rw e at low)
 
-    pub turn-good : v ≡ timeAt xs i → Turning w xs (set to i v) same (i + 1)
-    turn-good here = record { filling = fill-good _ _ (t .filling) l v e (sym e ∙ here); low = low-more }
+      pub turn-good : v ≡ timeAt xs i → Turning w xs (set to i v) same (i + 1)
+      turn-good here = record { filling = fill-good _ _ (t .filling) l v e (sym e ∙ here); low = low-more }
 
-    pub turn-bad : (v ≡ timeAt xs i → ⊥) → Turning w xs (set to i v) false (i + 1)
-    turn-bad not = record { filling = fill-bad _ _ (t .filling) l v e (λ here. not (e ∙ here)); low = low-more }
+      pub turn-bad : (v ≡ timeAt xs i → ⊥) → Turning w xs (set to i v) false (i + 1)
+      turn-bad not = record { filling = fill-bad _ _ (t .filling) l v e (λ here. not (e ∙ here)); low = low-more }
 
   module _ {to : List ℤ} {i : ℕ} (end : i ≡ w .size) (size : length to ≡ w .size) where
     pub turned-same : length xs ≡ w .size → Turning w xs to true i → Turned w xs Same to

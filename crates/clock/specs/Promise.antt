@@ -37,12 +37,12 @@ allAre n [] = true
 allAre n (m ∷ ms) = cond (eqb m n) (allAre n ms) false
 
 -- the paper's answer in both slices; where there is none, the originals
-unfoldable pub told : List ℤ → paper.Settled → Outcome
-told originals impossible = outcome Impossible originals originals
-told originals (settled k xs) = outcome (Rounds k) xs xs
+unfoldable pub answered : List ℤ → paper.Settled → Outcome
+answered originals impossible = outcome Impossible originals originals
+answered originals (settled k xs) = outcome (Rounds k) xs xs
 
 unfoldable pub outcomeOf : List ℤ → (before send latency : List ℕ) → (times spare : List ℤ) → Outcome
 outcomeOf originals before send latency times spare =
     cond (allAre (length originals) (length before ∷ length send ∷ length latency ∷ length times ∷ length spare ∷ []))
-    (told originals (paper.settle (waitsOf originals before send latency)))
+    (answered originals (paper.settle (waitsOf originals before send latency)))
     (outcome Misfit times spare)

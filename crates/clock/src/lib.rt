@@ -6,7 +6,7 @@ ghost use mathlib.Core.List.{[], _∷_};
 ghost use lib.ListN.{length};
 ghost use Rattle.paper.specs.Clock as paper;
 ghost use Rattle.paper.specs.Clock.{timeAt, waited, next};
-ghost use Rattle.clock.specs.Promise.{place, waitsOf, outcome, told, outcomeOf, allAre};
+ghost use Rattle.clock.specs.Promise.{place, waitsOf, outcome, answered, outcomeOf, allAre};
 ghost use Rattle.clock.specs.Inner.{Low, Sized, Ready, Turned, Started, Stepped, front, Ended};
 
 // The largest time that the format holds.
@@ -189,7 +189,7 @@ fn answer(
     requires { ⌜ Sized (now originals) (now before) (now send) (now latency) ⌝ }
     requires { ⌜ length (now times) ≡ length (now originals) ⌝ }
     requires { ⌜ length (now spare) ≡ length (now originals) ⌝ }
-    ensures { λ r. ⌜ outcome r (now (times .exit)) (now (spare .exit)) ≡ told (now (originals .entry)) (paper.settle (waitsOf (now (originals .entry)) (now (before .entry)) (now (send .entry)) (now (latency .entry)))) ⌝ }
+    ensures { λ r. ⌜ outcome r (now (times .exit)) (now (spare .exit)) ≡ answered (now (originals .entry)) (paper.settle (waitsOf (now (originals .entry)) (now (before .entry)) (now (send .entry)) (now (latency .entry)))) ⌝ }
 {
     let run = rounds(originals, before, send, latency, times, spare);
     match run {

@@ -1,5 +1,5 @@
 -- The computed answer means what it says, and is the only one that does.
-use Prim.Native.Nat.{ℕ, zero, suc, _+_, _≤_, _<_, max}
+use Prim.Native.Nat.{ℕ, zero, suc, _+_, _-_, _≤_, _<_, max}
 use native.Mathlib.Omega.{arith}
 use mathlib.Core.Path.{_≡_, refl, sym, ap, _∙_}
 use mathlib.Core.Logic.{_↔_}
@@ -93,7 +93,7 @@ pub settled-round : (w : Waits) → Closed w → {k : ℕ} {xs : List ℤ} → A
 settled-round w closed {k} a =
     least-unique (a .least) (repeat-least w closed k (a .repeats) (λ i i<. ≤ℤ-trans (round-below w closed (a .least .sound) k i i<) (a .least .sound .within i i<)))
 
--- where sound times exist there is one
+-- where sound times exist, there is a settled answer
 pub sound-settles : (w : Waits) → Closed w → {s : ℕ → ℤ} → Sound w s → (k : ℕ) × (xs : List ℤ) × (settle w ≡ settled k xs)
 unfolding Means
 sound-settles w closed {s} sound = go (settle w) refl
@@ -101,3 +101,11 @@ sound-settles w closed {s} sound = go (settle w) refl
     go : (a : Settled) → settle w ≡ a → (k : ℕ) × (xs : List ℤ) × (settle w ≡ settled k xs)
     go impossible e = absurd (impossible-iff w closed .0 e s sound)
     go (settled k xs) e = (k, xs, e)
+
+-- "The rounds reported are the first round that the next one repeats: at most one less than the number of listed records, and 0
+-- for none": wherever sound times exist, there is such a round
+pub first-repeat : (w : Waits) → Closed w → {s : ℕ → ℤ} → Sound w s → (k : ℕ) × Repeats w k × NoneBefore w k × (k ≤ w .size - 1)
+first-repeat w closed sound =
+    let there = sound-settles w closed sound in
+    let a = settled-answer w closed (there .2) in
+    (there .0, a .repeats, a .first, a .bound)

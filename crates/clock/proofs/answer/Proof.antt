@@ -1,6 +1,6 @@
 -- How the rounds ended, told by both slices.
 use borrow.Author.Needs.{needs}
-use Rattle.clock.proofs.Outcomes.{told-rounds, told-never}
+use Rattle.clock.proofs.Outcomes.{answered-rounds, answered-never}
 use Rattle.clock.proofs.answer.Statement.{statement}
 use Rattle.clock.proofs.answer.Tie as tie
 
@@ -26,7 +26,7 @@ same-length-2 : tie.Need-same-length-2
 same-length-2 c = search needs
 
 returns : tie.Need-returns
-returns c = told-rounds _ _ _ _ _ (rw (c .before .run .given .1) at (c .before .before .before .before .before .rounds .ensures))
+returns c = answered-rounds _ _ _ _ _ (rw (c .before .run .given .1) at (c .before .before .before .before .before .rounds .ensures))
 
 same-length-3 : tie.Need-same-length-3
 same-length-3 c = search needs
@@ -36,7 +36,10 @@ same-length-4 c = search needs
 
 returns-2 : tie.Need-returns-2
 returns-2 c =
-    told-never _ _ _ _ _ _ (rw (c .before .before .before .before .before .before .enum-told .given .1) at (c .before .before .before .before .before .before .before .before .before .before .rounds .ensures)) (c .before .before .before .before .start .ensures .holds) (c .before .start2 .ensures .holds)
+    let put-times = c .before .before .before .before in
+    let ended = put-times .before .before in
+    answered-never _ _ _ _ _ _ (rw (ended .enum-told .given .1) at (ended .before .before .before .before .rounds .ensures))
+    (put-times .start .ensures .holds) (c .before .start2 .ensures .holds)
 
 pub answer-spec : {M : Type 1} → statement M
 answer-spec =

@@ -13,6 +13,7 @@ use borrow.Author.Needs.{needs}
 use Rattle.paper.specs.Clock.{limit, timeAt}
 use Rattle.clock.specs.Promise.{waitsOf}
 use Rattle.clock.proofs.Tests.{passed, failed}
+use Rattle.clock.proofs.Waiting.{inside}
 use Rattle.clock.proofs.Turning.{Turning, turn-none, turn-over, turn-good, turn-bad, turned-same, turned-moved}
 use Rattle.clock.proofs.round.Statement.{statement}
 use Rattle.clock.proofs.round.Tie as tie
@@ -34,11 +35,11 @@ same-length : tie.Need-same-length Inv-loop μ-loop
 same-length c = search needs
 
 returns : tie.Need-returns Inv-loop μ-loop
-unfolding waitsOf
 returns c =
     let at = c .before .before .before .loop in
-    let fr : SFits w64 (c .before .next-at .result) = record { sfits = c .before .next-at .ok } in
-    turn-over _ _ _ (at .i) (c .before .before .loop-test .taken) _ (c .before .next-at .ensures) (passed limit _ (simp (toZ-ofZ, fr) at (c .if1 .taken)))
+    let time = c .before .next-at in
+    let fr : SFits w64 (time .result) = record { sfits = time .ok } in
+    turn-over _ _ (at .inv .2) _ (time .ensures) (inside _ _ _ _ _ (c .before .before .loop-test .taken)) (passed limit _ (simp (toZ-ofZ, fr) at (c .if1 .taken)))
 
 mul-if2 : tie.Need-mul-if2 Inv-loop μ-loop
 mul-if2 c = search needs
@@ -63,14 +64,15 @@ loop-again c =
     let at = c .before .before .before .before .before .loop in
     let time = c .before .before .before .next-at in
     let fr : SFits w64 (time .result) = record { sfits = time .ok } in
-    let fx : SFits w64 (timeAt (now (c .before .before .before .before .before .before .before .before .before .args .from)) (at .i)) = record { sfits = c .before .if22 .given } in
+    let start = c .before .before .before .before .before .before .before .before .before in
+    let fx : SFits w64 (timeAt (now (start .args .from)) (at .i)) = record { sfits = c .before .if22 .given } in
     let low : time .result ≤ℤ limit = failed limit _ (simp (toZ-ofZ, fr) at (c .before .before .if1 .left)) in
     let l : at .i < length (at .to) = omega arith in (
       omega arith,
       simp length-set (omega arith),
       rw (toZ-ofZ fr)
-          (⊎-elim (λ way. rw (way .1) (turn-bad _ _ (at .inv .2) l _ (time .ensures) low (λ e. way .0 .taken (ap (ofZ w64) e))))
-          (λ way. rw (way .1) (turn-good _ _ (at .inv .2) l _ (time .ensures) low (sym (toZ-ofZ fr) ∙ ap (toZ w64) (way .0 .left) ∙ toZ-ofZ fx)))
+          (⊎-elim (λ way. rw (way .1) (turn-bad _ _ (at .inv .2) _ (time .ensures) l low (λ e. way .0 .taken (ap (ofZ w64) e))))
+          (λ way. rw (way .1) (turn-good _ _ (at .inv .2) _ (time .ensures) l low (sym (toZ-ofZ fr) ∙ ap (toZ w64) (way .0 .left) ∙ toZ-ofZ fx)))
           (c .if2 .came)),
     )
 

@@ -1,4 +1,4 @@
--- The loop of rounds.
+-- The loop of rounds: the slice in front holds round k, and none before it was repeated.
 use Prim.Native.Nat.{_≤_, _-_}
 use native.Mathlib.Omega.{arith}
 use mathlib.Core.Path.{_≡_}
@@ -48,7 +48,9 @@ same-length-3 : tie.Need-same-length-3 Inv-loop μ-loop
 same-length-3 c = omega arith
 
 returns-2 : tie.Need-returns-2 Inv-loop μ-loop
-returns-2 c = step-over _ _ _ _ (c .before .before .before .before .before .before .before .loop .inv .3) (c .before .before .before .before .step .ensures) (c .enum-told .given .1)
+returns-2 c =
+    let at = c .before .before .before .before in
+    step-over _ _ _ _ (at .before .before .before .loop .inv .3) (at .step .ensures) (c .enum-told .given .1)
 
 enum-told-2 : tie.Need-enum-told-2 Inv-loop μ-loop
 enum-told-2 c = search needs
@@ -60,7 +62,9 @@ same-length-5 : tie.Need-same-length-5 Inv-loop μ-loop
 same-length-5 c = omega arith
 
 returns-3 : tie.Need-returns-3 Inv-loop μ-loop
-returns-3 c = step-same _ _ _ _ (c .before .before .before .before .before .before .before .loop .inv .3) (c .before .before .before .before .step .ensures) (c .enum-told2 .given .1)
+returns-3 c =
+    let at = c .before .before .before .before in
+    step-same _ _ _ _ (at .before .before .before .loop .inv .3) (at .step .ensures) (c .enum-told2 .given .1)
 
 enum-told-3 : tie.Need-enum-told-3 Inv-loop μ-loop
 enum-told-3 c = search needs
@@ -75,14 +79,18 @@ same-length-7 : tie.Need-same-length-7 Inv-loop μ-loop
 same-length-7 c = omega arith
 
 returns-4 : tie.Need-returns-4 Inv-loop μ-loop
-returns-4 c = step-late _ _ _ _ (c .before .before .before .before .before .before .before .before .loop .inv .3) (c .before .before .before .before .before .step .ensures) (c .before .enum-told3 .given .1) (c .if2 .taken)
+returns-4 c =
+    let at = c .before .before .before .before .before in
+    step-late _ _ _ _ (at .before .before .before .loop .inv .3) (at .step .ensures) (c .before .enum-told3 .given .1) (c .if2 .taken)
 
 loop-less : tie.Need-loop-less Inv-loop μ-loop
 loop-less c = omega arith
 
 loop-again : tie.Need-loop-again Inv-loop μ-loop
 loop-again c =
-    (omega arith, omega arith, omega arith, step-on _ _ _ _ (c .before .before .before .before .before .before .before .before .loop .inv .3) (c .before .before .before .before .before .step .ensures) (c .before .enum-told3 .given .1))
+    let at = c .before .before .before .before .before in
+    let next = step-on _ _ _ _ (at .before .before .before .loop .inv .3) (at .step .ensures) (c .before .enum-told3 .given .1) in
+    (omega arith, omega arith, omega arith, next)
 
 pub rounds-spec : {M : Type 1} → statement M
 rounds-spec =

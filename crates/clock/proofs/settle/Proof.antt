@@ -1,7 +1,8 @@
 -- The whole call: the slices compared, then answered.
 use mathlib.Core.Path.{sym, _∙_}
 use borrow.Author.Needs.{needs}
-use Rattle.clock.proofs.Outcomes.{fits, misfit, outcome-fit}
+use Rattle.clock.proofs.Lengths.{fits}
+use Rattle.clock.proofs.Outcomes.{misfit, outcome-fit}
 use Rattle.clock.proofs.settle.Statement.{statement}
 use Rattle.clock.proofs.settle.Tie as tie
 
@@ -20,7 +21,10 @@ same-length-2 : tie.Need-same-length-2
 same-length-2 c = search needs
 
 returns : tie.Need-returns
-returns c = c .before .before .answer .ensures ∙ outcome-fit _ _ _ _ _ _ (sym (c .before .before .before .before .before .before .fit .ensures) ∙ c .before .before .before .before .before .if1 .taken)
+returns c =
+    c .before .before .answer .ensures
+    ∙ outcome-fit _ _ _ _ _ _
+    (sym (c .before .before .before .before .before .before .fit .ensures) ∙ c .before .before .before .before .before .if1 .taken)
 
 returns-2 : tie.Need-returns-2
 returns-2 c = misfit _ _ _ _ _ _ (sym (c .before .fit .ensures) ∙ c .if1 .left)
