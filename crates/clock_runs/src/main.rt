@@ -168,6 +168,17 @@ fn limit(name: &[u8], latency: u32) {
     );
 }
 
+// The least time that there is, received after a later one was sent.
+fn lowest(name: &[u8]) {
+    run(
+        name,
+        &[5, -9_223_372_036_854_775_808],
+        &[NONE, NONE],
+        &[NONE, 0],
+        &[0, 2],
+    );
+}
+
 fn empty(name: &[u8]) {
     run(name, &[], &[], &[], &[]);
 }
@@ -196,6 +207,7 @@ fn long_waits() {
 fn edges() {
     limit(b"largest time, latency 0: ", 0);
     limit(b"largest time, latency 1: ", 1);
+    lowest(b"lowest number: ");
     misfit(b"a send too few: ");
 }
 
