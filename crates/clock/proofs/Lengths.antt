@@ -1,7 +1,7 @@
 -- The lengths of slices that fit: the test of all of them, and the facts.
 use Prim.Native.Nat.{ℕ}
 use mathlib.Core.Path.{_≡_, refl}
-use mathlib.Core.List.{List, [], _∷_}
+use mathlib.Core.List.{[], _∷_}
 use mathlib.Core.Bool.{Bool, true, false, cond}
 use borrow.Author.Tests.{eqb-true, eq-eqb}
 use Rattle.clock.specs.Promise.{allAre}

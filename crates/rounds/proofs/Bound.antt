@@ -23,7 +23,8 @@ module _ (w : Waits) (closed : Closed w) (s : ℕ → ℤ) (sound : Sound w s) w
   loses : (k i : ℕ) → i < w .size → Moves w (suc k) i → room (suc k) i < room k i
   unfolding room
   loses k i i< moves =
-      let lost : ¬ (room k i ≤ room (suc k) i) = λ l. clashℤ moves (apart-back (round-below w closed sound k i i<) (round-below w closed sound (suc k) i i<) l) in
+      let below : (m : ℕ) → round w m i ≤ℤ s i = λ m. round-below w closed sound m i i< in
+      let lost : ¬ (room k i ≤ room (suc k) i) = λ l. clashℤ moves (apart-back (below k) (below (suc k)) l) in
       omega arith
 
   -- and has then at least the room of its cause
@@ -33,7 +34,8 @@ module _ (w : Waits) (closed : Closed w) (s : ℕ → ℤ) (sound : Sound w s) w
 
   crowd : (k i : ℕ) → i < w .size → Moves w k i → k < count (w .size) (room k) (room k i)
   crowd zero i i< moves =
-      omega (arith, count-more (λ j. suc (room zero i) + room zero j) (room zero) (room zero i) (room zero i) (omega arith) (w .size) (λ j j<. omega arith) i i< (omega arith) (omega arith))
+      let r = room zero in
+      omega (arith, count-more (λ j. suc (r i) + r j) r (r i) (r i) (omega arith) (w .size) (λ j j<. omega arith) i i< (omega arith) (omega arith))
   crowd (suc k) i i< moves =
       let c = moved-by w k i moves in
       let on< = closed i (c .on) (c .weight) i< (c .wait) in

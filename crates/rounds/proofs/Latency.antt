@@ -27,7 +27,8 @@ module _ (w v : Waits) (slower : Slower w v) where
 
   module _ (cw : Closed w) (cv : Closed v) where
     -- no time is earlier
-    pub slower-later : {k m : ℕ} {xs ys : List ℤ} → settle w ≡ settled k xs → settle v ≡ settled m ys → (i : ℕ) → i < w .size → timeAt xs i ≤ℤ timeAt ys i
+    pub slower-later : {k m : ℕ} {xs ys : List ℤ} → settle w ≡ settled k xs → settle v ≡ settled m ys
+        → (i : ℕ) → i < w .size → timeAt xs i ≤ℤ timeAt ys i
     slower-later {xs = xs} {ys = ys} a b i i< =
         settled-answer w cw a .least .least (timeAt ys) (slower-sound (settled-answer v cv b .least .sound)) i i<
 

@@ -91,7 +91,8 @@ settled-answer w closed e = rw e at (settle-means w closed)
 -- its times are those of its round
 pub settled-round : (w : Waits) → Closed w → {k : ℕ} {xs : List ℤ} → Answer w k xs → (i : ℕ) → i < w .size → timeAt xs i ≡ round w k i
 settled-round w closed {k} a =
-    least-unique (a .least) (repeat-least w closed k (a .repeats) (λ i i<. ≤ℤ-trans (round-below w closed (a .least .sound) k i i<) (a .least .sound .within i i<)))
+    let sound = a .least .sound in
+    least-unique (a .least) (repeat-least w closed k (a .repeats) (λ i i<. ≤ℤ-trans (round-below w closed sound k i i<) (sound .within i i<)))
 
 -- where sound times exist, there is a settled answer
 pub sound-settles : (w : Waits) → Closed w → {s : ℕ → ℤ} → Sound w s → (k : ℕ) × (xs : List ℤ) × (settle w ≡ settled k xs)

@@ -99,16 +99,24 @@ apart-height floor (pos m) (negsuc n) d e = omega arith
 apart-height floor (negsuc m) (pos n) d e = omega arith
 apart-height floor (negsuc m) (negsuc n) d e = omega arith
 
+-- a later time is no further below
 pub apart-le : {a b : ℤ} (c : ℤ) → a ≤ℤ b → apart b c ≤ apart a c
 apart-le {a} {b} c h =
     let floor = depth a + depth b + depth c in
     omega (arith, height-le floor h, apart-height floor a c (omega arith) (omega arith), apart-height floor b c (omega arith) (omega arith))
 
+-- and one no further below is no earlier
 pub apart-back : {a b c : ℤ} → a ≤ℤ c → b ≤ℤ c → apart a c ≤ apart b c → b ≤ℤ a
 apart-back {a} {b} {c} h k l =
     let floor = depth a + depth b + depth c in
     le-height floor b a (omega arith)
-    (omega (arith, height-le floor h, height-le floor k, apart-height floor a c (omega arith) (omega arith), apart-height floor b c (omega arith) (omega arith)))
+    (omega (
+      arith,
+      height-le floor h,
+      height-le floor k,
+      apart-height floor a c (omega arith) (omega arith),
+      apart-height floor b c (omega arith) (omega arith),
+    ))
 
 -- where b plus the weight is at most c, a is at most as far below b as a plus the weight is below c
 pub apart-wait : (a b : ℤ) {c : ℤ} (v : ℕ) → (b +ℤ pos v) ≤ℤ c → apart a b ≤ apart (a +ℤ pos v) c

@@ -54,7 +54,8 @@ module _ (w : Waits) (closed : Closed w) where
         to some =
             ⊎-elim (λ one. one)
             (λ all. let none : k ≡ 0 = still-iff .1 (λ i i<. ≤ℤ-antisym (all i i<) (a .least .sound .above i i<)) in absurd (omega arith))
-            (some-or-all (λ i. w .original i <ℤ timeAt xs i) (λ i. timeAt xs i ≤ℤ w .original i) (λ i. compare (w .original i) (timeAt xs i) inl inr) (w .size))
+            (some-or-all (λ i. w .original i <ℤ timeAt xs i) (λ i. timeAt xs i ≤ℤ w .original i)
+            (λ i. compare (w .original i) (timeAt xs i) inl inr) (w .size))
 
         of : (i : ℕ) × (i < w .size) × (w .original i <ℤ timeAt xs i) → 0 < k
         of (i, i<, less) =

@@ -42,9 +42,11 @@ returns c =
     let x = timeAt (now (start .args .from)) (start .args .j) in
     let fx : SFits w64 x = record { sfits = c .before .sent .given } in
     let fv : v < 2 ^ 63 = omega (arith, start .fits .weight) in
-    let fs : SFits w64 (x +ℤ pos v) = record { sfits = sum-fits x v (c .before .sent .given) (start .pre _ (c .before .before .if1 .taken)) (start .fits .weight .fits) } in
+    let low = start .pre _ (c .before .before .if1 .taken) in
+    let fs : SFits w64 (x +ℤ pos v) = record { sfits = sum-fits x v (c .before .sent .given) low (start .fits .weight .fits) } in
     let fr : SFits w64 (c .later .result) = record { sfits = c .later .ok } in
-    let e : c .later .result ≡ paper.later (start .args .a) (x +ℤ pos v) = simp (toZ-ofZ, fx, fs, toZ-pos w64 fv, start .fits .a) at (c .later .ensures) in
+    let e : c .later .result ≡ paper.later (start .args .a) (x +ℤ pos v) =
+    simp (toZ-ofZ, fx, fs, toZ-pos w64 fv, start .fits .a) at (c .later .ensures) in
     rw (toZ-ofZ fr, place-at (c .before .before .if1 .taken)) e
 
 returns-2 : tie.Need-returns-2

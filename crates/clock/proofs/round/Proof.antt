@@ -39,7 +39,8 @@ returns c =
     let at = c .before .before .before .loop in
     let time = c .before .next-at in
     let fr : SFits w64 (time .result) = record { sfits = time .ok } in
-    turn-over _ _ (at .inv .2) _ (time .ensures) (inside _ _ _ _ _ (c .before .before .loop-test .taken)) (passed limit _ (simp (toZ-ofZ, fr) at (c .if1 .taken)))
+    turn-over _ _ (at .inv .2) _ (time .ensures) (inside _ _ _ _ _ (c .before .before .loop-test .taken))
+    (passed limit _ (simp (toZ-ofZ, fr) at (c .if1 .taken)))
 
 mul-if2 : tie.Need-mul-if2 Inv-loop μ-loop
 mul-if2 c = search needs
@@ -83,7 +84,8 @@ returns-2 : tie.Need-returns-2 Inv-loop μ-loop
 unfolding waitsOf
 returns-2 c =
     let at = c .before .before .loop in
-    turned-same _ _ (omega arith) (at .inv .1) (c .before .before .before .before .before .before .pre .1 .0 .size) (rw (c .if3 .taken) at (at .inv .2))
+    let own = c .before .before .before .before .before .before .pre .1 .0 .size in
+    turned-same _ _ (omega arith) (at .inv .1) own (rw (c .if3 .taken) at (at .inv .2))
 
 same-length-3 : tie.Need-same-length-3 Inv-loop μ-loop
 same-length-3 c = search needs

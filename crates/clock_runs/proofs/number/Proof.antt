@@ -24,8 +24,10 @@ returns c = search needs
 
 cast-print-decimal : tie.Need-cast-print-decimal
 cast-print-decimal c =
-    let f = c .before .before .before .fits .t in
-    rw (toZ-ofZ f) (yes-nonNeg (failed (c .before .before .before .args .t) _ (rw (toZ-ofZ f) at (c .if1 .left))), record { fits = omega (arith, natAbs-le (c .before .before .before .args .t) (f .sfits)) })
+    let start = c .before .before .before in
+    let f = start .fits .t in
+    rw (toZ-ofZ f)
+    (yes-nonNeg (failed (start .args .t) _ (rw (toZ-ofZ f) at (c .if1 .left))), record { fits = omega (arith, natAbs-le (start .args .t) (f .sfits)) })
 
 print-decimal-requires : tie.Need-print-decimal-requires
 print-decimal-requires c κs = search needs
