@@ -1,0 +1,9 @@
+-- The laws that the engine's proofs cite.
+pub mod Tests
+pub mod Waiting
+pub mod Filling
+pub mod Turning
+pub mod Going
+pub mod Stepping
+pub mod Lengths
+pub mod Outcomes
