@@ -20,7 +20,7 @@ use Rattle.paper.specs.declared.Message.{Message}
 use Rattle.paper.specs.declared.Head.{Head}
 use Rattle.paper.specs.declared.Fault.the-variants as Fault
 use Rattle.paper.specs.declared.Line.the-variants.{Refused, Listed}
-use Rattle.line.specs.Sorting.{noteOf}
+use Rattle.line.specs.Sorting.{noteOf, numberIn}
 use Rattle.line.specs.declared.listed.Note.{Note}
 use Rattle.line.specs.declared.listed.Note.the-variants as Note
 use Rattle.signed.specs.Naturals.{sizeOf, naturalOf}
@@ -108,22 +108,32 @@ module _ {l u t v p w : ℤ} (same-length : u ≡ l) (same-tag : v ≡ t) (same-
 
 -- ---- the place of a listed record
 
-module _ (h : Head) (fields : Option (List ℕ)) {u : ℤ} (same-processor : u ≡ h .processor) where
-  pub no-processor : naturalOf 63 u ≡ Outside → Refused Fault.Place ≡ listedLine h fields
-  unfolding listedLine placed onPlace
-  no-processor e = rw (above 63 (h .processor) (rw same-processor at e))
+module _ {p u q v : ℤ} (same-processor : u ≡ p) (same-process : v ≡ q) where
+  pub other-process : eqZ v (pos 0) ≡ false → none ≡ placed p q
+  unfolding placed
+  other-process z = rw (← same-process, z) (go (upTo 63 p))
+    where
+      go : (b : Bool) → none ≡ cond (b && false) (some (natAbs p)) none
+      go true = refl
+      go false = refl
 
-  module _ (n : ℕ) (is : naturalOf 63 u ≡ Of n) {v : ℤ} (same-process : v ≡ h .process) where
-    pub no-process : eqZ v (pos 0) ≡ false → Refused Fault.Place ≡ listedLine h fields
-    unfolding listedLine placed onPlace
-    no-process z = let b = up-to 63 (h .processor) n (rw same-processor at is) in rw (b .0, rw same-process at z)
+  pub own-process : eqZ v (pos 0) ≡ true → (r : Natural) → r ≡ naturalOf 63 u → numberIn r ≡ placed p q
+  unfolding placed naturalOf numberIn
+  own-process z r e = rw (e, same-processor, ← same-process, z) (go (upTo 63 p))
+    where
+      go : (b : Bool) → numberIn (cond b (Of (natAbs p)) Outside) ≡ cond (b && true) (some (natAbs p)) none
+      go true = refl
+      go false = refl
 
-    pub good-place : eqZ v (pos 0) ≡ true → {t k e : ℤ} {d : Data} (part : Part) → t ≡ h .time → k ≡ h .kind → e ≡ h .event → part ≡ partOf k e → d ≡ dataOf (h .count) fields
-        → withData t n part d ≡ listedLine h fields
-    unfolding listedLine placed onPlace
-    good-place z part a b c q r =
-        let m = up-to 63 (h .processor) n (rw same-processor at is) in
-        rw (a, q, b, c, r, m .0, rw same-process at z, m .1)
+module _ (h : Head) (fields : Option (List ℕ)) (r : Natural) (is : numberIn r ≡ placed (h .processor) (h .process)) where
+  pub no-place : r ≡ Outside → Refused Fault.Place ≡ listedLine h fields
+  unfolding listedLine onPlace numberIn
+  no-place e = rw (← is, e)
+
+  pub good-place : (n : ℕ) → r ≡ Of n → {t k e : ℤ} {d : Data} (part : Part) → t ≡ h .time → k ≡ h .kind → e ≡ h .event → part ≡ partOf k e → d ≡ dataOf (h .count) fields
+      → withData t n part d ≡ listedLine h fields
+  unfolding listedLine onPlace numberIn
+  good-place n o part a b c q s = rw (← is, o, a, q, b, c, s)
 
 -- ---- the record put together
 

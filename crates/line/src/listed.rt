@@ -1,8 +1,8 @@
 // A listed line: "then 9, data (5), 10".
 ghost use mathlib.Core.Path.{_≡_};
-ghost use Rattle.paper.specs.Line.{partOf, messageOf, roleOf, withRole, withData, listedLine};
+ghost use Rattle.paper.specs.Line.{placed, partOf, messageOf, roleOf, withRole, withData, listedLine};
 ghost use Rattle.fields.specs.Cursor.{restAt};
-ghost use Rattle.line.specs.Sorting.{noteOf, castOf};
+ghost use Rattle.line.specs.Sorting.{noteOf, castOf, numberIn};
 use paper::Data;
 use paper::Fault;
 use paper::Head;
@@ -114,16 +114,23 @@ fn with_data(time: i64, processor: usize, part: Part, values: Data) -> Line
     }
 }
 
+// "processor outside 0 to 63 or process not 0", or else the processor
+fn place_of(processor: i64, process: i64) -> Natural
+    ensures { λ r. ⌜ numberIn r ≡ placed processor process ⌝ }
+{
+    if signed::same(process, 0) {
+        return signed::up_to(processor, 63);
+    }
+    Natural::Outside
+}
+
 // "then 9"
 pub(crate) fn listed_line(l: &[u8], h: Head, next: usize) -> Line
     ensures { λ r. ⌜ r ≡ listedLine h (restAt (now (l .entry)) next) ⌝ }
 {
-    let Natural::Of(processor) = signed::up_to(h.processor, 63) else {
+    let Natural::Of(processor) = place_of(h.processor, h.process) else {
         return Line::Refused(Fault::Place);
     };
-    if !signed::same(h.process, 0) {
-        return Line::Refused(Fault::Place);
-    }
     let values = fields::read_data(l, next, h.count);
     with_data(h.time, processor, part_of(h.kind, h.event), values)
 }

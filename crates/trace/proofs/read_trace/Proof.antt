@@ -99,7 +99,7 @@ mul-last : tie.Need-mul-last Inv-loop μ-loop
 mul-last c = omega (arith, processor-in _ _ _ (c .before .before .before .before .before .before .before .before .before .before .before .read-line .ensures) _ (c .before .before .before .before .before .before .before .before .before .r .given .1))
 
 array-set-from-last : tie.Need-array-set-from-last Inv-loop μ-loop
-array-set-from-last c = processor-in _ _ _ (c .before .before .before .before .before .before .before .before .before .before .before .read-line .ensures) _ (c .before .before .before .before .before .before .before .before .before .r .given .1)
+array-set-from-last c = omega (arith, processor-in _ _ _ (c .before .before .before .before .before .before .before .before .before .before .before .read-line .ensures) _ (c .before .before .before .before .before .before .before .before .before .r .given .1))
 
 add-listed : tie.Need-add-listed Inv-loop μ-loop
 add-listed c = search needs

@@ -1,0 +1,24 @@
+-- `line::listed::place_of` meets its contract.
+use borrow.Author.Needs.{needs}
+use mathlib.Core.Path.{_≡_, refl, sym, ap, _∙_}
+use mir.Facts.{toZ-ofZ}
+use Rattle.line.specs.Sorting.{numberIn}
+use Rattle.line.proofs.Parts.{own-process, other-process}
+use Rattle.line.proofs.listed.place_of.Statement.{statement}
+use Rattle.line.proofs.listed.place_of.Tie as tie
+
+same-requires : tie.Need-same-requires
+same-requires c κs = search needs
+
+up-to-requires : tie.Need-up-to-requires
+up-to-requires c κs = search needs
+
+returns : tie.Need-returns
+returns c = own-process (toZ-ofZ (c .before .before .before .fits .processor)) (toZ-ofZ (c .before .before .before .fits .process)) (sym (c .before .before .same .ensures) ∙ c .before .if1 .taken) _ (c .up-to .ensures)
+
+returns-2 : tie.Need-returns-2
+unfolding numberIn
+returns-2 c = other-process (toZ-ofZ (c .before .before .fits .processor)) (toZ-ofZ (c .before .before .fits .process)) (sym (c .before .same .ensures) ∙ c .if1 .left)
+
+pub place-of-spec : {M : Type 1} → statement M
+place-of-spec = tie.close (tie.spec same-requires up-to-requires returns returns-2)
