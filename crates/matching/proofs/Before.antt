@@ -4,7 +4,7 @@ use native.Mathlib.Omega.{arith}
 use native.Mathlib.Decide.{decLt}
 use mathlib.Core.Path.{_≡_, refl}
 use mathlib.Core.Bool.{Bool, true, false, cond}
-use mathlib.Core.Option.{none, some}
+use mathlib.Core.Option.{none, some, Option·none-ne-some, Option·some-ne-none}
 use mathlib.Core.List.{List}
 use borrow.Author.Tests.{eqb-true, eqb-false}
 use lib.Dec.{eqb}
@@ -21,7 +21,7 @@ pub record LastOn (es : List Entry) (processor i j : ℕ) : Type 0 where
 module _ (es : List Entry) (processor : ℕ) where
   pub last-on : (i j : ℕ) → lastOn es processor i ≡ some j → LastOn es processor i j
   unfolding lastOn
-  last-on zero j h = let z : _≡_ {A = ℕ} 0 1 = cc in absurd (omega arith)
+  last-on zero j h = absurd (Option·none-ne-some j h)
   last-on (suc i) j h = go (eqb (processorAt es i) processor) refl h (λ e. last-on i j e)
     where
       more : LastOn es processor i j → (processorAt es i ≡ processor → ⊥) → LastOn es processor (suc i) j
@@ -46,6 +46,6 @@ module _ (es : List Entry) (processor : ℕ) where
     where
       go : (t : Bool) → eqb (processorAt es i) processor ≡ t → cond t (some i) (lastOn es processor i) ≡ none
           → (lastOn es processor i ≡ none → k < i → processorAt es k ≡ processor → ⊥) → Dec (k < i) → processorAt es k ≡ processor → ⊥
-      go true e s f d = let z : _≡_ {A = ℕ} 0 1 = cc in absurd (omega arith)
+      go true e s f d = absurd (Option·some-ne-none i s)
       go false e s f (yes g) = f s g
       go false e s f (no g) = let z : k ≡ i = omega arith in rw z (eqb-false _ _ e)

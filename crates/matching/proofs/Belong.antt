@@ -1,9 +1,8 @@
 -- "The k-th receive at processor q from p with type t belongs to the k-th send from p to q with type t, both counted in file
 -- order": what the send of a receive is.
 use Prim.Native.Nat.{ℕ, _<_}
-use native.Mathlib.Omega.{arith}
 use mathlib.Core.Path.{_≡_, refl, ap}
-use mathlib.Core.Option.{some}
+use mathlib.Core.Option.{some, Option·none-ne-some}
 use mathlib.Core.List.{List}
 use lib.ListN.{length, take}
 use Rattle.paper.specs.Matching.{Key, countIf, isReceiveOf, sendPlace, sendFor, entryAt, sendOf}
@@ -36,8 +35,8 @@ pub is-receive : (es : List Entry) (i processor : ℕ) (r : Role) (j : ℕ) → 
     → (m : Message) × (r ≡ Receive m)
     × (sendPlace (receiveKey processor m) (countIf (isReceiveOf (receiveKey processor m)) (take i es)) es ≡ some j)
 unfolding sendFor
-is-receive es i processor Neither j h = let z : _≡_ {A = ℕ} 0 1 = cc in absurd (omega arith)
-is-receive es i processor (Send m) j h = let z : _≡_ {A = ℕ} 0 1 = cc in absurd (omega arith)
+is-receive es i processor Neither j h = absurd (Option·none-ne-some j h)
+is-receive es i processor (Send m) j h = absurd (Option·none-ne-some j h)
 is-receive es i processor (Receive m) j h = (m, refl, h)
 
 pub belongs : (es : List Entry) (i j : ℕ) → sendOf es i ≡ some j → Belongs es i j

@@ -3,22 +3,22 @@ use Prim.Native.Nat.{ℕ, zero, suc, _+_, _≤_, _<_}
 use native.Mathlib.Omega.{arith}
 use native.Mathlib.Decide.{decLt}
 use native.Mathlib.Numerals.{add-one}
-use mathlib.Core.Path.{_≡_, refl, _∙_}
+use mathlib.Core.Path.{_≡_, refl, sym, ap, _∙_}
 use mathlib.Core.Logic.{_⊎_, inl, inr}
 use mathlib.Core.Bool.{Bool, true, false, cond}
-use mathlib.Core.Option.{Option, none, some}
+use mathlib.Core.Option.{Option, none, some, Option·some-ne-none, Option·some-injective}
 use mathlib.Core.List.{List, []}
 use borrow.Author.Tests.{eqb-true}
 use lib.Dec.{eqb}
 use lib.ListN.{length, drop, drop-of-length-le}
 use lib.Seq.{drop-cons}
-use Rattle.paper.specs.Matching.{entryAt, sendOf, lengthAt, callOf, callFor, onCall, matchedFrom, matchedOf}
+use Rattle.paper.specs.Matching.{entryAt, sendOf, lengthAt, lengthSent, callOf, callFor, onCall, matchedFrom, matchedOf}
 use Rattle.paper.specs.declared.Fault.{Fault}
 use Rattle.paper.specs.declared.Message.{Message}
 use Rattle.paper.specs.declared.Role.the-variants.{Receive}
 use Rattle.paper.specs.declared.Entry.{Entry}
 use Rattle.paper.specs.declared.Stop.the-variants.{End, At}
-use Rattle.matching.proofs.Belong.{roleAt}
+use Rattle.matching.proofs.Belong.{roleAt, Belongs}
 
 -- what the entry at place i calls for
 abbrev pub callAt : List Entry → ℕ → Option Fault
@@ -98,16 +98,25 @@ module _ (es : List Entry) where
 
   call-none : (received : ℕ) (o : Option ℕ) → callOf es received o ≡ none → (j : ℕ) × (o ≡ some j) × (received ≡ lengthAt es j)
   unfolding callOf
-  call-none received none h = let z : _≡_ {A = ℕ} 0 1 = cc in absurd (omega arith)
+  call-none received none h = absurd (Option·some-ne-none _ h)
   call-none received (some j) h = go (eqb received (lengthAt es j)) refl h
     where
       go : (t : Bool) → eqb received (lengthAt es j) ≡ t → cond t none (some Fault.OtherLength) ≡ none
           → (k : ℕ) × (some j ≡ some k) × (received ≡ lengthAt es k)
       go true e g = (j, refl, eqb-true _ _ e)
-      go false e g = let z : _≡_ {A = ℕ} 0 1 = cc in absurd (omega arith)
+      go false e g = absurd (Option·some-ne-none _ g)
 
   -- "and where all match, every receive has a send"
   pub every-receive : matchedOf es ≡ End → (i : ℕ) → i < length es → (m : Message) → roleAt es i ≡ Receive m
       → (j : ℕ) × (sendOf es i ≡ some j) × (m .length ≡ lengthAt es j)
   unfolding callFor
   every-receive h i l m r = call-none (m .length) (sendOf es i) (rw r at (end-no-call h i l))
+
+  -- and the two lengths agree
+  pub lengths-agree : matchedOf es ≡ End → (i j : ℕ) → i < length es → sendOf es i ≡ some j → (b : Belongs es i j)
+      → b .received .length ≡ b .sent .length
+  unfolding lengthSent
+  lengths-agree h i j l e b =
+      let (k, f, same) = every-receive h i l (b .received) (b .receives) in
+      let z : k ≡ j = Option·some-injective k j (sym f ∙ e) in
+      same ∙ ap (λ (x : ℕ). lengthAt es x) z ∙ ap lengthSent (b .sends)

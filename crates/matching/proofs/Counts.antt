@@ -3,7 +3,7 @@ use Prim.Native.Nat.{ℕ, zero, suc, _+_, _≤_, _<_}
 use native.Mathlib.Omega.{arith}
 use native.Mathlib.Decide.{decLt}
 use mathlib.Core.Path.{_≡_, refl, sym, ap, _∙_}
-use mathlib.Core.Bool.{Bool, true, false, cond}
+use mathlib.Core.Bool.{Bool, true, false, cond, false≢true}
 use mathlib.Core.Option.{some, Option·getD}
 use mathlib.Core.List.{List}
 use borrow.Author.Tests.{eq-eqb, ne-eqb}
@@ -85,8 +85,8 @@ at-most p f m (suc n) q h = go (p n) refl (λ r g. at-most p f m n r g)
 
 is-receive-role : (r : Role) → isReceive r ≡ true → (m : Message) × (r ≡ Receive m)
 unfolding isReceive
-is-receive-role Neither h = let z : _≡_ {A = ℕ} 0 1 = cc in absurd (omega arith)
-is-receive-role (Send m) h = let z : _≡_ {A = ℕ} 0 1 = cc in absurd (omega arith)
+is-receive-role Neither h = absurd (false≢true h)
+is-receive-role (Send m) h = absurd (false≢true h)
 is-receive-role (Receive m) h = (m, refl)
 
 is-send-role : (r : Role) (m : Message) → r ≡ Send m → isSend r ≡ true

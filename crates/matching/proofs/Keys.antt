@@ -1,8 +1,7 @@
 -- Keys that are told the same are the same; what it is to be a send or a receive under a key.
 use Prim.Native.Nat.{ℕ}
-use native.Mathlib.Omega.{arith}
 use mathlib.Core.Path.{_≡_, refl, ap}
-use mathlib.Core.Bool.{Bool, true, false, _&&_}
+use mathlib.Core.Bool.{Bool, true, false, _&&_, false≢true}
 use borrow.Author.Tests.{eqb-true, eq-eqb}
 use lib.Dec.{eqb}
 use lib.IntN.{ℤ, pos, negsuc}
@@ -14,12 +13,12 @@ use Rattle.paper.specs.declared.Role.the-variants.{Neither, Send, Receive}
 
 pub both : (x y : Bool) → (x && y) ≡ true → (x ≡ true) × (y ≡ true)
 both true y h = (refl, h)
-both false y h = let z : _≡_ {A = ℕ} 0 1 = cc in absurd (omega arith)
+both false y h = absurd (false≢true h)
 
 pub eqZ-true : (a b : ℤ) → eqZ a b ≡ true → a ≡ b
 eqZ-true (pos a) (pos b) h = ap pos (eqb-true a b h)
-eqZ-true (pos a) (negsuc b) h = let z : _≡_ {A = ℕ} 0 1 = cc in absurd (omega arith)
-eqZ-true (negsuc a) (pos b) h = let z : _≡_ {A = ℕ} 0 1 = cc in absurd (omega arith)
+eqZ-true (pos a) (negsuc b) h = absurd (false≢true h)
+eqZ-true (negsuc a) (pos b) h = absurd (false≢true h)
 eqZ-true (negsuc a) (negsuc b) h = ap negsuc (eqb-true a b h)
 
 pub eqZ-same : (a : ℤ) → eqZ a a ≡ true
@@ -52,6 +51,6 @@ receiveKey processor m = record { sender = m .peer; receiver = processor; tag = 
 pub sends-under : (k : Key) (processor : ℕ) (r : Role) → sendsUnder k processor r ≡ true
     → (m : Message) × (r ≡ Send m) × (k ≡ sendKey processor m)
 unfolding sendsUnder
-sends-under k processor Neither h = let z : _≡_ {A = ℕ} 0 1 = cc in absurd (omega arith)
+sends-under k processor Neither h = absurd (false≢true h)
 sends-under k processor (Send m) h = (m, refl, same-key k (sendKey processor m) h)
-sends-under k processor (Receive m) h = let z : _≡_ {A = ℕ} 0 1 = cc in absurd (omega arith)
+sends-under k processor (Receive m) h = absurd (false≢true h)

@@ -3,8 +3,8 @@ use Prim.Native.Nat.{ℕ, zero, suc, _+_, _≤_, _<_}
 use native.Mathlib.Omega.{arith}
 use native.Mathlib.Decide.{decLt}
 use mathlib.Core.Path.{_≡_, refl, sym, ap, _∙_}
-use mathlib.Core.Bool.{Bool, true, false, cond}
-use mathlib.Core.Option.{Option, none, some}
+use mathlib.Core.Bool.{Bool, true, false, cond, true≢false}
+use mathlib.Core.Option.{Option, none, some, Option·none-ne-some}
 use mathlib.Core.List.{List, [], _∷_}
 use lib.ListN.{length}
 use Rattle.paper.specs.Matching.{Key, isSendOf, oneLater, sendPlace, entryAt}
@@ -28,7 +28,7 @@ abbrev shifted : (ℕ → Bool) → ℕ → Bool
 shifted p i = p (suc i)
 
 later-some : (o : Option ℕ) (j : ℕ) → oneLater o ≡ some j → (i : ℕ) × (j ≡ suc i) × (o ≡ some i)
-later-some none j e = let z : _≡_ {A = ℕ} 0 1 = cc in absurd (omega arith)
+later-some none j e = absurd (Option·none-ne-some j e)
 later-some (some i) j e = (i, cc, refl)
 
 module _ (p : ℕ → Bool) (n : ℕ) where
@@ -49,7 +49,7 @@ module _ (p : ℕ → Bool) (n : ℕ) where
       }
 
   not-first : p 0 ≡ false → (k j : ℕ) → Kth p (suc n) k j → (i : ℕ) × (j ≡ suc i)
-  not-first e k zero h = let z : _≡_ {A = ℕ} 0 1 = let f : true ≡ false = sym (h .passes) ∙ e in cc in absurd (omega arith)
+  not-first e k zero h = absurd (true≢false (sym (h .passes) ∙ e))
   not-first e k (suc i) h = (i, refl)
 
   past-first : (k j : ℕ) → Kth p (suc n) (suc k) j → (i : ℕ) × (j ≡ suc i)
@@ -95,7 +95,7 @@ sendAt key es i = isSendOf key (entryAt es i)
 no-kth : (p : ℕ → Bool) (k : ℕ) → Answers p 0 k none
 no-kth p k =
     record {
-      sound = λ j e. let z : _≡_ {A = ℕ} 0 1 = cc in absurd (omega arith);
+      sound = λ j e. absurd (Option·none-ne-some j e);
       whole = λ j h. absurd (omega (arith, h .within));
     }
 
@@ -131,6 +131,5 @@ none-left p n k o a e = go (decLt k (count p n))
     go : Dec (k < count p n) → count p n ≤ k
     go (yes h) =
         let (j, f) = find-kth p k n h in
-        let s : o ≡ some j = a .whole j f in
-        let z : _≡_ {A = ℕ} 0 1 = cc in absurd (omega arith)
+        absurd (Option·none-ne-some j (sym e ∙ a .whole j f))
     go (no h) = omega arith

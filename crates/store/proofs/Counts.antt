@@ -1,7 +1,6 @@
 -- A signed number of 64 bits as a count: what the two ways of `count_at` come to.
-use Prim.Native.Nat.{ℕ}
 use mathlib.Core.Path.{_≡_, refl}
-use mathlib.Core.Bool.{true, false}
+use mathlib.Core.Bool.{true, false, true≢false}
 use native.Mathlib.Omega.{arith}
 use borrow.Author.Tests.{ltb-true}
 use lib.Dec.{T}
@@ -20,11 +19,11 @@ negative (negsuc n) e = refl
 whole : (z : ℤ) → ltZ z (pos 0) ≡ false → natAbs z ≡ natural z
 unfolding natural
 whole (pos n) e = refl
-whole (negsuc n) e = let z : _≡_ {A = ℕ} 0 1 = cc in absurd (omega arith)
+whole (negsuc n) e = absurd (true≢false e)
 
 fitting : (z : ℤ) → SFits w64 z → ltZ z (pos 0) ≡ false → T (nonNeg z) × Fits w64 (natAbs z)
 fitting (pos n) f e = (tt, record { fits = let h = f .sfits in omega arith })
-fitting (negsuc n) f e = let z : _≡_ {A = ℕ} 0 1 = cc in absurd (omega arith)
+fitting (negsuc n) f e = absurd (true≢false e)
 
 -- the same of a number that went through a local, which shows as its bits
 module _ {z : ℤ} (f : SFits w64 z) where

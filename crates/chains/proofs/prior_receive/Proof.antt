@@ -1,0 +1,64 @@
+-- `chains::prior_receive` meets its contract. The invariant: no receive under the key was passed, and p is on the chain.
+use mathlib.Core.Path.{sym, _∙_}
+use native.Mathlib.Omega.{arith}
+use borrow.Author.Needs.{needs}
+use Rattle.chains.proofs.Walks.{comes-back-to, comes-back-out}
+use Rattle.chains.proofs.Search.{Backwards, backward-begins, backward-less, backward-turns}
+use Rattle.chains.proofs.prior_receive.Statement.{statement}
+use Rattle.chains.proofs.prior_receive.Tie as tie
+
+abbrev Inv-loop : tie.InvT-loop
+Inv-loop store link from key p₀ p = Backwards store key from p
+
+abbrev μ-loop : tie.MeasureT-loop
+μ-loop store link from key p₀ p = p
+
+loop-holds : tie.Need-loop-holds Inv-loop μ-loop
+loop-holds c = backward-begins _ _ _ _ (c .before .pre)
+
+sub-at : tie.Need-sub-at Inv-loop μ-loop
+sub-at c = search needs
+
+receive-under-requires : tie.Need-receive-under-requires Inv-loop μ-loop
+receive-under-requires c κs = search needs
+
+returns : tie.Need-returns Inv-loop μ-loop
+returns c =
+    comes-back-to _ _ _ _ (c .before .before .before .loop .inv) (c .before .before .loop-test .taken)
+    (sym (c .before .receive-under .ensures) ∙ c .if1 .taken)
+
+mul-p : tie.Need-mul-p Inv-loop μ-loop
+mul-p c = omega (arith, c .before .before .before .before .before .pre .upto)
+
+shared-slice-read-p : tie.Need-shared-slice-read-p Inv-loop μ-loop
+shared-slice-read-p c = omega (arith, c .before .before .before .before .before .before .pre .upto)
+
+loop-less : tie.Need-loop-less Inv-loop μ-loop
+loop-less c =
+    let l = c .before .before .before .before .loop in
+    backward-less _ _ _ _ (c .before .before .before .before .before .before .pre) (l .p) (l .inv) (c .before .before .before .loop-test .taken)
+
+loop-again : tie.Need-loop-again Inv-loop μ-loop
+loop-again c =
+    let l = c .before .before .before .before .loop in
+    backward-turns _ _ _ _ (c .before .before .before .before .before .before .pre) (l .p) (l .inv) (c .before .before .before .loop-test .taken)
+    (sym (c .before .before .receive-under .ensures) ∙ c .before .if1 .left)
+
+returns-2 : tie.Need-returns-2 Inv-loop μ-loop
+returns-2 c = comes-back-out _ _ _ _ (c .before .loop .inv) (c .loop-test .left)
+
+pub prior-receive-spec : {M : Type 1} → statement M
+prior-receive-spec =
+    tie.close
+    (tie.spec
+    Inv-loop
+    μ-loop
+    loop-holds
+    sub-at
+    receive-under-requires
+    returns
+    mul-p
+    shared-slice-read-p
+    loop-less
+    loop-again
+    returns-2)

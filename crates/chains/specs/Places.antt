@@ -1,0 +1,32 @@
+-- The places of the sends, and what finding them leaves in the two lent slices.
+use Prim.Native.Nat.{ℕ}
+use mathlib.Core.List.{List}
+use mathlib.Core.Bool.{cond}
+use mathlib.Core.Option.{Option, none, some}
+use lib.ListN.{length, replicate}
+use lib.IntN.{ℤ}
+use lib.Dec.{eqb}
+use Rattle.paper.specs.Clock.{listed}
+use Rattle.paper.specs.Matching.{sendOf}
+use Rattle.paper.specs.declared.Entry.{Entry}
+use Rattle.store.specs.Layout.{entriesIn}
+
+-- a place, or n where there is none
+abbrev pub place : ℕ → Option ℕ → ℕ
+place n none = n
+place n (some j) = j
+
+-- of each entry the place of its send
+unfoldable pub placesOf : List Entry → List ℕ
+placesOf es = listed (length es) (λ i. place (length es) (sendOf es i))
+
+pub record Places : Type 0 where
+  pub sends : List ℕ
+  pub link : List ℕ
+
+-- the links come back cleared; where they are not as many as the places, nothing is touched
+unfoldable pub found : List ℤ → List ℕ → List ℕ → Places
+found store sends link =
+    cond (eqb (length link) (length sends))
+    (record { sends = placesOf (entriesIn store (length sends)); link = replicate (length sends) 0 })
+    (record { sends = sends; link = link })

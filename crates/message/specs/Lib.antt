@@ -1,0 +1,2 @@
+-- `Outcome` is what the public call comes to.
+pub mod Outcome

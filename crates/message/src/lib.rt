@@ -1,0 +1,150 @@
+// The answer of the matching: the first receive that calls for 13 or 14, or how many messages matched and how many sends were not
+// received.
+ghost use mathlib.Core.Path.{_≡_};
+ghost use Prim.Native.Nat.{_<_};
+ghost use lib.ListN.{length};
+ghost use Rattle.paper.specs.Matching.{lengthSent, matchedOf, isSend, isReceive, matchedCount, unreceivedCount};
+ghost use Rattle.store.specs.Layout.{entryFrom, entriesIn};
+ghost use Rattle.chains.specs.Places.{placesOf};
+ghost use Rattle.message.specs.Outcome.{Outcome, matching, answerOf, stopAt, one};
+use paper::Fault;
+use paper::Role;
+use paper::Stop;
+
+pub enum Matching {
+    // how many messages matched, and how many sends were not received
+    Matched(usize, usize),
+    Refused(Fault, usize),
+    // the lent slices do not fit the store
+    Misfit,
+}
+
+// ---- 13 and 14, and the counts
+
+fn role_at(store: &[i64], i: usize) -> Role
+    ensures { λ r. ⌜ r ≡ entryFrom (now (store .entry)) i .body .role ⌝ }
+{
+    let e = store::entry_at(store, i);
+    let body = e.body;
+    body.role
+}
+
+fn length_sent(role: Role) -> u64
+    ensures { λ r. ⌜ r ≡ lengthSent role ⌝ }
+{
+    match role {
+        Role::Neither => 0,
+        Role::Send(m) => m.length,
+        Role::Receive(_) => 0,
+    }
+}
+
+// What record i calls for: 13 where it is a receive without a send, 14 where its length differs from the send's.
+fn call_at(store: &[i64], sends: &[usize], i: usize) -> Stop
+    requires { ⌜ (i < length (now sends)) × (now sends ≡ placesOf (entriesIn (now store) (length (now sends)))) ⌝ }
+    ensures { λ r. ⌜ r ≡ stopAt (entriesIn (now (store .entry)) (length (now (sends .entry)))) i ⌝ }
+{
+    let e = store::entry_at(store, i);
+    let body = e.body;
+    let role = body.role;
+    match role {
+        Role::Neither => Stop::End,
+        Role::Send(_) => Stop::End,
+        Role::Receive(m) => {
+            let received = m.length;
+            let s = sends[i];
+            if sends.len() <= s {
+                return Stop::At(Fault::NoSend, e.line);
+            }
+            let sent = length_sent(role_at(store, s));
+            if received != sent {
+                return Stop::At(Fault::OtherLength, e.line);
+            }
+            Stop::End
+        }
+    }
+}
+
+// The first receive in file order that calls for 13 or 14.
+fn first_call(store: &[i64], sends: &[usize]) -> Stop
+    requires { ⌜ now sends ≡ placesOf (entriesIn (now store) (length (now sends))) ⌝ }
+    ensures { λ r. ⌜ r ≡ matchedOf (entriesIn (now (store .entry)) (length (now (sends .entry)))) ⌝ }
+{
+    let mut i: usize = 0;
+    while i < sends.len() {
+        let stop = call_at(store, sends, i);
+        if let Stop::At(fault, line) = stop {
+            return Stop::At(fault, line);
+        }
+        i += 1;
+    }
+    Stop::End
+}
+
+// One for a send, and one for a receive.
+fn sends_one(role: Role) -> usize
+    ensures { λ r. ⌜ r ≡ one (isSend role) ⌝ }
+{
+    match role {
+        Role::Neither => 0,
+        Role::Send(_) => 1,
+        Role::Receive(_) => 0,
+    }
+}
+
+fn receives_one(role: Role) -> usize
+    ensures { λ r. ⌜ r ≡ one (isReceive role) ⌝ }
+{
+    match role {
+        Role::Neither => 0,
+        Role::Send(_) => 0,
+        Role::Receive(_) => 1,
+    }
+}
+
+fn counted(store: &[i64], n: usize) -> Matching
+    ensures { λ r. ⌜ r ≡ Matching.Matched (matchedCount (entriesIn (now (store .entry)) n)) (unreceivedCount (entriesIn (now (store .entry)) n)) ⌝ }
+{
+    let mut received: usize = 0;
+    let mut sent: usize = 0;
+    let mut i: usize = 0;
+    while i < n {
+        let role = role_at(store, i);
+        received += receives_one(role);
+        sent += sends_one(role);
+        i += 1;
+    }
+    if sent < received {
+        return Matching::Matched(received, 0);
+    }
+    Matching::Matched(received, sent - received)
+}
+
+fn answered(store: &[i64], sends: &[usize]) -> Matching
+    requires { ⌜ now sends ≡ placesOf (entriesIn (now store) (length (now sends))) ⌝ }
+    ensures { λ r. ⌜ r ≡ answerOf (entriesIn (now (store .entry)) (length (now (sends .entry)))) ⌝ }
+{
+    let stop = first_call(store, sends);
+    if let Stop::At(fault, line) = stop {
+        return Matching::Refused(fault, line);
+    }
+    counted(store, sends.len())
+}
+
+// ---- the call
+
+// Matches the records of a store, as many as there are places for their sends: of each receive the place of its send, and where
+// it has none, or is no receive, the number of records. The links are room for the work, as many as the places, and come back
+// cleared.
+pub fn match_messages(store: &[i64], sends: &mut [usize], link: &mut [usize]) -> Matching
+    ensures { λ r. ⌜ _≡_ {A = Outcome} (record { answer = r; sends = now (sends .exit); link = now (link .exit) }) (matching (now (store .entry)) (now (sends .entry)) (now (link .entry))) ⌝ }
+{
+    if link.len() != sends.len() {
+        return Matching::Misfit;
+    }
+    if store.len() / store::WIDTH < sends.len() {
+        return Matching::Misfit;
+    }
+    chains::find_sends(store, sends, link);
+    answered(store, sends)
+}
