@@ -35,7 +35,10 @@ module _ (store : List ℤ) (table sends : List ℕ) {originals : List ℤ} {bef
 
   -- the engine's waits settle as the paper's
   paper-settles : paper.settle (Rattle.clock.specs.Promise.waitsOf o b sends l) ≡ paper.settle (waitsOf table (entriesIn store (length t)))
-  paper-settles = rw (o-is, b-is, l-is, kept) (same-settled table (entriesIn store (length times)) sends (rw (tables .places) (unfold placesOf in refl)))
+  paper-settles =
+      rw kept
+      (same-settled table (entriesIn store (length times))
+        (record { are-originals = o-is; are-befores = b-is; are-sends = rw (tables .places) (unfold placesOf in refl); are-latencies = l-is }))
 
   fit : Fit (length o) (length b) (length sends) (length l) (length times) (length spare)
   unfolding originalsOf beforesOf latenciesOf placesOf

@@ -9,7 +9,7 @@ use Rattle.paper.specs.Matching.{lastOn, sendOf, waitsOf}
 use Rattle.paper.specs.declared.Entry.{Entry}
 use Rattle.matching.proofs.Before.{last-on}
 use Rattle.matching.proofs.Belong.{belongs}
-use Rattle.rounds.specs.Meaning.{Wait, on-before, on-send, Closed}
+use Rattle.rounds.specs.Meaning.{on-before, on-send, Closed}
 
 module _ (es : List Entry) where
   pub before-within : (processor i j : ℕ) → i < length es → lastOn es processor i ≡ some j → j < length es

@@ -1,7 +1,8 @@
--- `Filling`, `Stored` and `Last` are what the functions' proofs cite. `Agree`, `Closed` and `Same` say what the tables are good for.
+-- `Filling`, `Stored` and `Last` are what the functions' proofs cite; `Outcomes`, `Agree`, `Closed` and `Same` what a caller does.
 pub mod Filling
 pub mod Stored
 pub mod Last
+pub mod Outcomes
 pub mod Agree
 pub mod Closed
 pub mod Same

@@ -1,13 +1,13 @@
 -- The engine, given the tables of a trace's records, answers what the paper says of the records.
 use Prim.Native.Nat.{ℕ, _<_}
 use native.Mathlib.Omega.{arith}
-use mathlib.Core.Path.{_≡_, refl, sym, ap, _∙_}
+use mathlib.Core.Path.{_≡_, refl}
 use mathlib.Core.Option.{Option, none, some}
 use mathlib.Core.List.{List}
 use borrow.Author.Tests.{lt-ltb, le-ltb}
 use lib.ListN.{length, getD}
-use lib.IntN.{pos}
-use Rattle.paper.specs.Clock.{Waits, listed, settle}
+use lib.IntN.{ℤ, pos}
+use Rattle.paper.specs.Clock.{listed, settle}
 use Rattle.paper.specs.Matching as paper
 use Rattle.paper.specs.Matching.{lastOn, sendOf}
 use Rattle.paper.specs.declared.Entry.{Entry}
@@ -17,6 +17,13 @@ use Rattle.clock.specs.Promise.{place, waitsOf}
 use Rattle.waits.specs.Tables.{placeOr, originalAt, latencyAt, originalsOf, beforesOf, latenciesOf}
 use Rattle.waits.proofs.Agree.{Agree, settle-agrees}
 use Rattle.waits.proofs.Closed.{before-within, send-within}
+
+-- what the engine is given for a trace's records: three tables of this crate, and of each entry the place of its send
+pub record Given (table : List ℕ) (es : List Entry) (originals : List ℤ) (before send latency : List ℕ) : Type 0 where
+  pub are-originals : originals ≡ originalsOf es
+  pub are-befores : before ≡ beforesOf es
+  pub are-sends : send ≡ listed (length es) (λ i. placeOr (length es) (sendOf es i))
+  pub are-latencies : latency ≡ latenciesOf table es
 
 -- places that were written down are read again
 module _ (n : ℕ) where
@@ -28,28 +35,32 @@ module _ (n : ℕ) where
       → place n (getD (listed n (λ k. placeOr n (f k))) i 0) ≡ f i
   places-back f i i< within = rw (listed-at n (λ k. placeOr n (f k)) i 0 i<) (place-back (f i) within)
 
-module _ (table : List ℕ) (es : List Entry) (sends : List ℕ) (are : sends ≡ listed (length es) (λ i. placeOr (length es) (sendOf es i))) where
-  abbrev engine : Waits
-  engine = waitsOf (originalsOf es) (beforesOf es) sends (latenciesOf table es)
-
+module _ (table : List ℕ) (es : List Entry) where
   size : length (originalsOf es) ≡ length es
   unfolding originalsOf
   size = length-listed (length es) (originalAt es)
 
+  lastAt : ℕ → Option ℕ
+  lastAt i = lastOn es (processorAt es i) i
+
   -- the tables stand for the waits that the paper tells of
-  pub tables-agree : Agree engine (paper.waitsOf table es)
-  unfolding waitsOf originalsOf beforesOf latenciesOf paper.waitsOf
-  tables-agree =
-      let inside : (i : ℕ) → i < length (originalsOf es) → i < length es = λ i l. rw size at l in
-      record {
+  pub tables-agree : {originals : List ℤ} {before send latency : List ℕ} → Given table es originals before send latency
+      → Agree (waitsOf originals before send latency) (paper.waitsOf table es)
+  unfolding waitsOf originalsOf beforesOf latenciesOf paper.waitsOf lastAt
+  tables-agree g =
+      let n = length es in
+      let inside : (i : ℕ) → i < length (originalsOf es) → i < n = λ i l. rw size at l in
+      rw (g .are-originals, g .are-befores, g .are-sends, g .are-latencies)
+      (record {
         size = size;
-        original = λ i l. listed-at (length es) (originalAt es) i (pos 0) (inside i l);
-        before = λ i l. rw size (places-back (length es) (λ i. lastOn es (processorAt es i) i) i (inside i l) (λ j. before-within es (processorAt es i) i j (inside i l)));
+        original = λ i l. listed-at n (originalAt es) i (pos 0) (inside i l);
+        before = λ i l. rw size (places-back n lastAt i (inside i l) (λ j. before-within es (processorAt es i) i j (inside i l)));
         gap = λ i l. refl;
-        send = λ i l. rw (size, are) (places-back (length es) (sendOf es) i (inside i l) (send-within es i));
-        latency = λ i l. listed-at (length es) (latencyAt table es) i 0 (inside i l);
-      }
+        send = λ i l. rw size (places-back n (sendOf es) i (inside i l) (send-within es i));
+        latency = λ i l. listed-at n (latencyAt table es) i 0 (inside i l);
+      })
 
   -- and so the engine's answer is the paper's
-  pub same-settled : settle engine ≡ settle (paper.waitsOf table es)
-  same-settled = settle-agrees tables-agree
+  pub same-settled : {originals : List ℤ} {before send latency : List ℕ} → Given table es originals before send latency
+      → settle (waitsOf originals before send latency) ≡ settle (paper.waitsOf table es)
+  same-settled g = settle-agrees (tables-agree g)

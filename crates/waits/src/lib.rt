@@ -55,8 +55,7 @@ pub fn originals_into(store: &[i64], out: &mut [i64])
 {
     let mut i: usize = 0;
     while i < out.len() {
-        let time = time_at(store, i);
-        out[i] = time;
+        out[i] = time_at(store, i);
         i += 1;
     }
 }
@@ -89,8 +88,7 @@ pub fn latencies_into(store: &[i64], table: &[u32], out: &mut [u32])
 {
     let mut i: usize = 0;
     while i < out.len() {
-        let latency = latency_at(store, table, i);
-        out[i] = latency;
+        out[i] = latency_at(store, table, i);
         i += 1;
     }
 }

@@ -23,11 +23,11 @@ loop-holds c = fill-none _ _ _
 time-at-requires : tie.Need-time-at-requires Inv-loop μ-loop
 time-at-requires c κs = search needs
 
-mul-time : tie.Need-mul-time Inv-loop μ-loop
-mul-time c = search needs
+mul-t4 : tie.Need-mul-t4 Inv-loop μ-loop
+mul-t4 c = search needs
 
-slice-set-from-time : tie.Need-slice-set-from-time Inv-loop μ-loop
-slice-set-from-time c = search needs
+slice-set-from-out : tie.Need-slice-set-from-out Inv-loop μ-loop
+slice-set-from-out c = search needs
 
 add-i : tie.Need-add-i Inv-loop μ-loop
 add-i c = search needs
@@ -56,8 +56,8 @@ originals-into-spec =
     μ-loop
     loop-holds
     time-at-requires
-    mul-time
-    slice-set-from-time
+    mul-t4
+    slice-set-from-out
     add-i
     loop-less
     loop-again

@@ -1,7 +1,5 @@
 -- `waits::processor_at` meets its contract, by that of `entry_at`: a stored processor is below 64.
-use mathlib.Core.Path.{ap}
 use borrow.Author.Needs.{needs}
-use Rattle.paper.specs.declared.Entry.{Entry}
 use Rattle.waits.proofs.Stored.{on-processor}
 use Rattle.waits.proofs.processor_at.Statement.{statement}
 use Rattle.waits.proofs.processor_at.Tie as tie
