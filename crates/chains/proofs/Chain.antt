@@ -21,7 +21,8 @@ pub filled-with : (v : ℕ) → Filled (replicate 1024 v) v
 filled-with v = record { buckets = length-replicate 1024 v; each = λ b h. getD-replicate 1024 b v 0 h }
 
 -- nothing is chained yet
-pub chain-begins : (l : List ℤ) (link heads : List ℕ) → Filled heads (length link) → Chained l (length link) link heads (length link)
+pub chain-begins : (l : List ℤ) (link heads : List ℕ) → Filled heads (length link)
+    → Chained l (length link) link heads (length link)
 chain-begins l link heads e =
     record {
       size = refl;
@@ -62,7 +63,8 @@ module _ (l : List ℤ) (n : ℕ) (link heads : List ℕ) (i : ℕ) (m : i < n) 
         rw (getD-set-other heads b c i 0 (λ z. true≢false (sym (eq-eqb b c (sym z)) ∙ e)))
         (first-earlier (sendIn l c) i n (getD heads c 0) (is-in c ∙ e) (h .head c g))
 
-    next-of : (j c : ℕ) → i ≤ j → j < n → sendIn l c j ≡ true → Dec (i < j) → First (sendIn l c) n (j + 1) (getD (set link i (getD heads b 0)) j 0)
+    next-of : (j c : ℕ) → i ≤ j → j < n → sendIn l c j ≡ true → Dec (i < j)
+        → First (sendIn l c) n (j + 1) (getD (set link i (getD heads b 0)) j 0)
     next-of j c a g e (yes d) = rw (getD-set-other link i j (getD heads b 0) 0 (λ z. absurd (omega arith))) (h .linked j c (omega arith) g e)
     next-of j c a g e (no d) =
         let z : i ≡ j = omega arith in

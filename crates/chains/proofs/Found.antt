@@ -28,7 +28,8 @@ use Rattle.chains.specs.Chains.{First, Last, sendIn, Forward, Ready, sta
 -- ---- first and k-th
 
 -- nothing on the way to the first of a chain is under the key
-first-through : (p q : ℕ → Bool) (n i j s : ℕ) → ((k : ℕ) → q k ≡ false → p k ≡ false) → First q n i j → First p n j s → First p n i s
+first-through : (p q : ℕ → Bool) (n i j s : ℕ) → ((k : ℕ) → q k ≡ false → p k ≡ false) → First q n i j → First p n j s
+    → First p n i s
 first-through p q n i j s hidden f g =
     record { from = omega (arith, f .from, g .from); upto = g .upto; none = λ k a b. go k a b (decLt k j); here = g .here }
   where
@@ -82,7 +83,8 @@ module _ (l : List ℤ) (n : ℕ) (key : Key) where
   ranked i h = count-take (isReceiveOf (keyOf key)) (entriesIn l n) i (rw length-entries h)
 
   -- behind so many receives, the send is the one with so many before it
-  under-at : (i k : ℕ) → i ≤ n → count received i ≡ k → sendUnderAt (entriesIn l n) (keyOf key) i ≡ place n (sendPlace (keyOf key) k (entriesIn l n))
+  under-at : (i k : ℕ) → i ≤ n → count received i ≡ k
+      → sendUnderAt (entriesIn l n) (keyOf key) i ≡ place n (sendPlace (keyOf key) k (entriesIn l n))
   unfolding sendUnderAt
   under-at i k h e = rw (length-entries l n, ranked i h, e)
 
@@ -126,7 +128,8 @@ module _ (l : List ℤ) (sends link : List ℕ) (key : Key) (head from : ℕ) (h
       }
 
   -- a start with k sends under the key before it, where as many receives stand before `from`
-  starts-at : (k i start : ℕ) → count (received l n key) from ≡ k → count (sent l n key) i ≡ k → First (sendIn l (bucketOf key)) n i start → Starts start
+  starts-at : (k i start : ℕ) → count (received l n key) from ≡ k → count (sent l n key) i ≡ k
+      → First (sendIn l (bucketOf key)) n i start → Starts start
   starts-at k i start r c f =
       record {
         high = f .upto;
@@ -182,7 +185,8 @@ module _ (l : List ℤ) (sends link : List ℕ) (key : Key) (head from : ℕ) (h
   starts zero f = starts-head f
   starts (suc q) f = rw (its-place q f) (starts-behind q f _ refl)
 
-  pub may-start : (prior : ℕ) → Last (receiveUnder l key) from prior → Forward l link (bucketOf key) (startFrom sends link head prior)
+  pub may-start : (prior : ℕ) → Last (receiveUnder l key) from prior
+      → Forward l link (bucketOf key) (startFrom sends link head prior)
   may-start prior f = let s = starts prior f in record { linked = h .linked; upto = s .high; here = s .on }
 
   pub found : (prior s : ℕ) → Last (receiveUnder l key) from prior → First (sendUnder l key) n (startFrom sends link head prior) s

@@ -10,7 +10,8 @@ use lib.IntN.{ℤ}
 use Rattle.paper.specs.Clock.{listed}
 use Rattle.paper.specs.Matching.{sendOf}
 use Rattle.store.specs.Layout.{entriesIn}
-use Rattle.store.proofs.Laws.{length-entries, length-listed, listed-at}
+use Rattle.store.proofs.Listed.{length-listed, listed-at}
+use Rattle.store.proofs.Laws.{length-entries}
 use Rattle.chains.specs.Places.{place, placesOf, Places, found}
 use Rattle.chains.specs.Chains.{Placed}
 use Rattle.chains.proofs.Places.{length-places}
@@ -39,7 +40,8 @@ module _ (l : List ℤ) (n : ℕ) (sends : List ℕ) (e : sends ≡ placesOf (en
 -- ---- the outcome
 
 module _ (store : List ℤ) (sends link : List ℕ) where
-  pub not-found : (length link ≡ length sends → ⊥) → _≡_ {A = Places} (record { sends = sends; link = link }) (found store sends link)
+  pub not-found : (length link ≡ length sends → ⊥)
+      → _≡_ {A = Places} (record { sends = sends; link = link }) (found store sends link)
   unfolding found
   not-found h = rw (ne-eqb (length link) (length sends) h)
 
@@ -61,5 +63,6 @@ module _ (store : List ℤ) (sends link : List ℕ) where
     links-cleared = ap (λ (q : Places). q .link) (e ∙ unfold-found)
 
 -- any two outcomes for the same slices are the same
-pub one-finding : (store : List ℤ) (sends link : List ℕ) (a b : Places) → a ≡ found store sends link → b ≡ found store sends link → a ≡ b
+pub one-finding : (store : List ℤ) (sends link : List ℕ) (a b : Places) → a ≡ found store sends link
+    → b ≡ found store sends link → a ≡ b
 one-finding store sends link a b e f = e ∙ sym f

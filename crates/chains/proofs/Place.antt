@@ -12,6 +12,7 @@ use lib.ListN.{length, getD, set, length-set}
 use lib.Seq.{getD-set-same, getD-set-other}
 use lib.IntN.{ℤ}
 use Rattle.paper.specs.Matching.{sendOf}
+use Rattle.paper.specs.declared.Entry.{Entry}
 use Rattle.store.specs.Layout.{entriesIn}
 use Rattle.store.proofs.Laws.{length-entries}
 use Rattle.side.specs.declared.Key.{Key}
@@ -28,7 +29,8 @@ use Rattle.chains.proofs.Found.{send-side, same-behind}
 use Rattle.chains.proofs.Chain.{receive-sends}
 
 -- no receive is seen yet
-pub place-begins : (l : List ℤ) (n : ℕ) (sends link heads seen : List ℕ) → length sends ≡ n → Chained l n link heads 0 → Filled seen 0
+pub place-begins : (l : List ℤ) (n : ℕ) (sends link heads seen : List ℕ) → length sends ≡ n → Chained l n link heads 0
+    → Filled seen 0
     → Placing l n sends link heads seen 0
 place-begins l n sends link heads seen size h e =
     record {
@@ -56,7 +58,8 @@ module _ (l : List ℤ) (n : ℕ) (sends link heads seen : List ℕ) (i : ℕ) (
   placed-more v e = after-set (λ j x. x ≡ place n (sendOf (entriesIn l n) j)) sends i v (omega (arith, h .size)) (h .placed) e
 
   -- a record that is no receive
-  pub place-none : sendOf (entriesIn l n) i ≡ none → ((b : ℕ) → receiveIn l b i ≡ false) → Placing l n (set sends i n) link heads seen (i + 1)
+  place-none : sendOf (entriesIn l n) i ≡ none → ((b : ℕ) → receiveIn l b i ≡ false)
+      → Placing l n (set sends i n) link heads seen (i + 1)
   place-none e out =
       record {
         size = simp length-set (h .size);
@@ -144,16 +147,17 @@ module _ (l : List ℤ) (n : ℕ) (sends link heads seen : List ℕ) (i : ℕ) (
           placed = placed-more s (found-send s f);
         }
 
--- what no receive is has no send, and no bucket of receives
-module _ (l : List ℤ) (n i : ℕ) (m : i < n) {side : Side} (e : side ≡ sideAt l i) where
-  pub neither-none : side ≡ Neither → sendOf (entriesIn l n) i ≡ none
-  neither-none f = send-side l n i m ∙ ap (sendBy (entriesIn l n) i) (sym e ∙ f)
+  -- ---- by the record's side
 
-  pub send-none : {k : Key} → side ≡ Sends k → sendOf (entriesIn l n) i ≡ none
-  send-none f = send-side l n i m ∙ ap (sendBy (entriesIn l n) i) (sym e ∙ f)
+  abbrev es : List Entry
+  es = entriesIn l n
 
-  pub neither-receives : side ≡ Neither → (b : ℕ) → receiveIn l b i ≡ false
-  neither-receives f b = ap (receivesIn b) (sym e ∙ f)
+  module _ {side : Side} (e : side ≡ sideAt l i) where
+    by-side : (x : Side) → side ≡ x → sendOf es i ≡ sendBy es i x
+    by-side x f = send-side l n i m ∙ ap (sendBy es i) (sym e ∙ f)
 
-  pub send-receives : {k : Key} → side ≡ Sends k → (b : ℕ) → receiveIn l b i ≡ false
-  send-receives f b = ap (receivesIn b) (sym e ∙ f)
+    pub place-neither : side ≡ Neither → Placing l n (set sends i n) link heads seen (i + 1)
+    place-neither f = place-none (by-side Neither f) (λ b. ap (receivesIn b) (sym e ∙ f))
+
+    pub place-send : {k : Key} → side ≡ Sends k → Placing l n (set sends i n) link heads seen (i + 1)
+    place-send {k} f = place-none (by-side (Sends k) f) (λ b. ap (receivesIn b) (sym e ∙ f))

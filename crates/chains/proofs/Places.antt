@@ -8,7 +8,7 @@ use lib.ListN.{length, getD}
 use Rattle.paper.specs.Matching.{sendOf}
 use Rattle.paper.specs.declared.Entry.{Entry}
 use Rattle.matching.proofs.Belong.{belongs}
-use Rattle.store.proofs.Laws.{length-listed, listed-at}
+use Rattle.store.proofs.Listed.{length-listed, listed-at}
 use Rattle.chains.specs.Places.{place, placesOf}
 
 some-place : (n : ℕ) (o : Option ℕ) → place n o < n → o ≡ some (place n o)

@@ -62,6 +62,7 @@ module _ (sends link : List ℕ) (head : ℕ) where
   start-behind zero h l = absurd (h refl)
   start-behind (suc q) h l = let e : suc q - 1 ≡ q = omega arith in rw (e, lt-ltb (getD sends q 0) (length link) (rw e at l))
 
-  pub start-none : (prior : ℕ) → (prior ≡ 0 → ⊥) → length link ≤ getD sends (prior - 1) 0 → length link ≡ startFrom sends link head prior
+  pub start-none : (prior : ℕ) → (prior ≡ 0 → ⊥) → length link ≤ getD sends (prior - 1) 0
+      → length link ≡ startFrom sends link head prior
   start-none zero h l = absurd (h refl)
   start-none (suc q) h l = let e : suc q - 1 ≡ q = omega arith in rw (le-ltb (getD sends q 0) (length link) (rw e at l))

@@ -64,7 +64,8 @@ pub record Going-back (p q : ℕ → Bool) (from s : ℕ) : Type 0 where
   pub on : (k : ℕ) → s ≡ suc k → q k ≡ true
 
 module _ (p q : ℕ → Bool) (from s : ℕ) (g : Going-back p q from s) where
-  pub goes-back : (t : ℕ) → 0 < s → ((k : ℕ) → q k ≡ false → p k ≡ false) → p (s - 1) ≡ false → Last q (s - 1) t → Going-back p q from t
+  pub goes-back : (t : ℕ) → 0 < s → ((k : ℕ) → q k ≡ false → p k ≡ false) → p (s - 1) ≡ false → Last q (s - 1) t
+      → Going-back p q from t
   goes-back t h hidden e f =
       record { high = omega (arith, g .high, f .upto); none = λ k a b. go k a b (decLt k (s - 1)) (decLt (s - 1) k); on = f .here }
     where

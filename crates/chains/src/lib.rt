@@ -44,6 +44,7 @@ fn prior_receive(store: &[i64], link: &[usize], from: usize, key: Key) -> usize
     0
 }
 
+// Where the search starts: at the head of the bucket, or behind the send of the receive before.
 fn start_from(sends: &[usize], link: &[usize], head: usize, prior: usize) -> usize
     requires { ⌜ prior ≤ length (now sends) ⌝ }
     ensures { λ r. ⌜ r ≡ startFrom (now (sends .entry)) (now (link .entry)) head prior ⌝ }
@@ -94,6 +95,7 @@ fn chain_one(store: &[i64], link: &mut [usize], heads: &mut [usize], i: usize)
     }
 }
 
+// Chains the sends, from the last record to the first.
 fn chain_sends(store: &[i64], link: &mut [usize], heads: &mut [usize])
     requires { ⌜ Filled (now heads) (length (now link)) ⌝ }
     ensures { λ r. ⌜ Chained (now (store .entry)) (length (now (link .entry))) (now (link .exit)) (now (heads .exit)) 0 ⌝ }
@@ -136,6 +138,7 @@ fn place_one(
     }
 }
 
+// Places the sends, from the first record to the last.
 fn place_sends(
     store: &[i64],
     sends: &mut [usize],
@@ -153,7 +156,8 @@ fn place_sends(
     }
 }
 
-fn cleared(v: usize) -> [usize; 1024]
+// One number for each bucket.
+fn each_bucket(v: usize) -> [usize; 1024]
     ensures { λ r. ⌜ Filled r v ⌝ }
 {
     [v; 1024]
@@ -177,9 +181,9 @@ pub fn find_sends(store: &[i64], sends: &mut [usize], link: &mut [usize])
     if link.len() != sends.len() {
         return;
     }
-    let mut heads = cleared(sends.len());
+    let mut heads = each_bucket(sends.len());
     chain_sends(store, link, &mut heads);
-    let mut seen = cleared(0);
+    let mut seen = each_bucket(0);
     place_sends(store, sends, link, &heads, &mut seen);
     clear(link);
 }

@@ -32,6 +32,10 @@ pub record TimePut (room : List ℕ) (at : ℕ) (time : ℤ) (r : Put) (after : 
   pub answer : r ≡ timePut room at time
   pub holds : after ≡ roomAfter r room at (timeShown time)
 
+-- how many bytes a time takes, none for one that has no form
+unfoldable pub shownLength : ℤ → ℕ
+shownLength time = cond (leb (natAbs time) 999999999999999) (length (timeShown time)) 0
+
 -- a sign, written
 unfoldable pub signShown : Bool → List ℕ
 signShown true = 45 ∷ []

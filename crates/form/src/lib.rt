@@ -5,7 +5,7 @@ mod write;
 
 ghost use mathlib.Core.Path.{_≡_};
 ghost use Rattle.paper.specs.Forms.{wholeOf, timeOf};
-ghost use Rattle.form.specs.Writes.{TimePut};
+ghost use Rattle.form.specs.Writes.{shownLength, TimePut};
 use paper::Field;
 
 // The number in a field without its sign, where the field has one.
@@ -51,5 +51,15 @@ pub fn write_time(room: &mut [u8], at: usize, time: i64) -> Put
     match write::size_of(time) {
         Size::Of(size) => write::put_signed(room, at, time < 0, size),
         Size::Bad => Put::NoTime,
+    }
+}
+
+// How many bytes `write_time` takes for a time: 0 for one that has no form.
+pub fn shown_length(time: i64) -> usize
+    ensures { λ r. ⌜ r ≡ shownLength time ⌝ }
+{
+    match write::size_of(time) {
+        Size::Of(size) => write::signed_length(time < 0, size),
+        Size::Bad => 0,
     }
 }

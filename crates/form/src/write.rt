@@ -82,6 +82,16 @@ fn sign_length(minus: bool) -> usize
     if minus { 1 } else { 0 }
 }
 
+// How many bytes a sign and a size take.
+pub(crate) fn signed_length(minus: bool, size: u64) -> usize
+    requires { ⌜ size ≤ 999999999999999 ⌝ }
+    ensures { λ r. ⌜ r ≡ length (signShown minus ++ sizeShown size) ⌝ }
+{
+    let k = places(size / 1_000_000);
+    let sign = sign_length(minus);
+    sign + k + 7
+}
+
 // A time by its sign and its size, which are written only where there is room for both.
 pub(crate) fn put_signed(room: &mut [u8], at: usize, minus: bool, size: u64) -> Put
     requires { ⌜ size ≤ 999999999999999 ⌝ }

@@ -45,7 +45,8 @@ module _ (es : List Entry) (processor : ℕ) where
   none-on (suc i) h k l = go (eqb (processorAt es i) processor) refl h (λ e. none-on i e k) (decLt k i)
     where
       go : (t : Bool) → eqb (processorAt es i) processor ≡ t → cond t (some i) (lastOn es processor i) ≡ none
-          → (lastOn es processor i ≡ none → k < i → processorAt es k ≡ processor → ⊥) → Dec (k < i) → processorAt es k ≡ processor → ⊥
+          → (lastOn es processor i ≡ none → k < i → processorAt es k ≡ processor → ⊥) → Dec (k < i)
+          → processorAt es k ≡ processor → ⊥
       go true e s f d = absurd (Option·some-ne-none i s)
       go false e s f (yes g) = f s g
       go false e s f (no g) = let z : k ≡ i = omega arith in rw z (eqb-false _ _ e)

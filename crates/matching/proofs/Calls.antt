@@ -30,6 +30,10 @@ pub record FirstCall (es : List Entry) (i : ℕ) (fault : Fault) : Type 0 where
   pub calls : callAt es i ≡ some fault
   pub none-before : (k : ℕ) → k < i → callAt es k ≡ none
 
+-- some entry is the first that calls, and none of the first n does
+abbrev pub SomeCall : List Entry → Type 0
+SomeCall es = (i : ℕ) × (fault : Fault) × FirstCall es i fault
+
 abbrev pub NoCall : List Entry → ℕ → Type 0
 NoCall es n = (k : ℕ) → k < n → callAt es k ≡ none
 
@@ -61,12 +65,12 @@ module _ (es : List Entry) where
       passed i (omega (arith, f .within)) (f .none-before) ∙ matched-step i (f .within) ∙ rw (f .calls)
 
   -- there is a first call, or none
-  pub search : (n : ℕ) → n ≤ length es → NoCall es n ⊎ ((i : ℕ) × (fault : Fault) × FirstCall es i fault)
+  pub search : (n : ℕ) → n ≤ length es → NoCall es n ⊎ SomeCall es
   search zero h = inl (λ k l. absurd (omega arith))
   search (suc n) h = go (search n (omega arith)) (callAt es n) refl
     where
-      go : NoCall es n ⊎ ((i : ℕ) × (fault : Fault) × FirstCall es i fault) → (o : Option Fault) → callAt es n ≡ o
-          → NoCall es (suc n) ⊎ ((i : ℕ) × (fault : Fault) × FirstCall es i fault)
+      go : NoCall es n ⊎ SomeCall es → (o : Option Fault) → callAt es n ≡ o
+          → NoCall es (suc n) ⊎ SomeCall es
       go (inr f) o e = inr f
       go (inl quiet) none e = inl (λ k l. last k l (decLt k n))
         where
@@ -78,15 +82,17 @@ module _ (es : List Entry) where
   pub end-no-call : matchedOf es ≡ End → NoCall es (length es)
   end-no-call h = go (search (length es) (omega arith))
     where
-      go : NoCall es (length es) ⊎ ((i : ℕ) × (fault : Fault) × FirstCall es i fault) → NoCall es (length es)
+      go : NoCall es (length es) ⊎ SomeCall es → NoCall es (length es)
       go (inl quiet) = quiet
       go (inr (i, fault, f)) =
           let at = first-call-at i fault f in let z : _≡_ {A = ℕ} 0 1 = cc in absurd (omega arith)
 
-  pub at-first-call : (fault : Fault) (line : ℕ) → matchedOf es ≡ At fault line → (i : ℕ) × FirstCall es i fault × (entryAt es i .line ≡ line)
+  pub at-first-call : (fault : Fault) (line : ℕ) → matchedOf es ≡ At fault line
+      → (i : ℕ) × FirstCall es i fault × (entryAt es i .line ≡ line)
   at-first-call fault line h = go (search (length es) (omega arith))
     where
-      go : NoCall es (length es) ⊎ ((i : ℕ) × (fault : Fault) × FirstCall es i fault) → (i : ℕ) × FirstCall es i fault × (entryAt es i .line ≡ line)
+      go : NoCall es (length es) ⊎ SomeCall es
+          → (i : ℕ) × FirstCall es i fault × (entryAt es i .line ≡ line)
       go (inl quiet) = let end = no-call-end quiet in let z : _≡_ {A = ℕ} 0 1 = cc in absurd (omega arith)
       go (inr (i, fault′, f)) =
           let at = first-call-at i fault′ f in

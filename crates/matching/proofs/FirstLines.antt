@@ -44,7 +44,8 @@ module _ (es more : List Entry) where
         rank = count-same (sendAt key (es ++ more)) (sendAt key es) j (λ i l. ap (isSendOf key) (entry-stays i (omega (arith, f .within)))) ∙ f .rank;
       })
 
-  send-stays-for : (i processor j : ℕ) (r : Role) → i ≤ length es → sendFor es i processor r ≡ some j → sendFor (es ++ more) i processor r ≡ some j
+  send-stays-for : (i processor j : ℕ) (r : Role) → i ≤ length es → sendFor es i processor r ≡ some j
+      → sendFor (es ++ more) i processor r ≡ some j
   unfolding sendFor
   send-stays-for i processor j Neither l h = h
   send-stays-for i processor j (Send m) l h = h
@@ -56,7 +57,8 @@ module _ (es more : List Entry) where
   kept-send i j l h = rw (entry-stays i l) (send-stays-for i (processorAt es i) j (roleAt es i) (omega arith) h)
 
   -- what is no receive has no send
-  no-send : (i processor : ℕ) (r : Role) → ((m : Message) → r ≡ Receive m → sendFor (es ++ more) i processor r ≡ sendFor es i processor r)
+  no-send : (i processor : ℕ) (r : Role)
+      → ((m : Message) → r ≡ Receive m → sendFor (es ++ more) i processor r ≡ sendFor es i processor r)
       → sendFor (es ++ more) i processor r ≡ sendFor es i processor r
   unfolding sendFor
   no-send i processor Neither f = refl

@@ -1,6 +1,7 @@
--- `Count`, `Places` and `Keys` are the tools; each other file is one thing that the paper says, or that follows from it.
+-- `Count`, `Places`, `Into` and `Keys` are the tools; each other file is one thing that the paper says, or that follows from it.
 pub mod Count
 pub mod Places
+pub mod Into
 pub mod Keys
 pub mod Belong
 pub mod Calls

@@ -18,7 +18,8 @@ use Rattle.matching.proofs.Keys.{sendKey, receiveKey, key-same, sends-u
 use Rattle.matching.proofs.Belong.{processorAt, roleAt, is-receive}
 
 -- a receive is a receive under its own key
-pub receives-own : (processor : ℕ) (m : Message) (r : Role) → r ≡ Receive m → receivesUnder (receiveKey processor m) processor r ≡ true
+pub receives-own : (processor : ℕ) (m : Message) (r : Role) → r ≡ Receive m
+    → receivesUnder (receiveKey processor m) processor r ≡ true
 unfolding receivesUnder
 receives-own processor m r e = rw e (key-same (receiveKey processor m))
 

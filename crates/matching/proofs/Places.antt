@@ -69,7 +69,8 @@ module _ (p : ℕ → Bool) (n : ℕ) where
       rw z at (answer-later k o (not-first e (bit (p 0) + k)) a)
 
   -- the 0-th is the first itself, where that passes
-  first-answers : (t : Bool) (o : Option ℕ) → p 0 ≡ t → Answers (shifted p) n 0 o → Answers p (suc n) 0 (cond t (some 0) (oneLater o))
+  first-answers : (t : Bool) (o : Option ℕ) → p 0 ≡ t → Answers (shifted p) n 0 o
+      → Answers p (suc n) 0 (cond t (some 0) (oneLater o))
   unfolding count
   first-answers true o e a =
       record {

@@ -42,7 +42,8 @@ take-map es zero = refl
 take-map [] (suc i) = refl
 take-map (e ∷ es) (suc i) = ap (λ (l : List Entry). untimed e ∷ l) (take-map es i)
 
-count-untimed : (test : Entry → Bool) → ((e : Entry) → test (untimed e) ≡ test e) → (es : List Entry) → countIf test (map untimed es) ≡ countIf test es
+count-untimed : (test : Entry → Bool) → ((e : Entry) → test (untimed e) ≡ test e) → (es : List Entry)
+    → countIf test (map untimed es) ≡ countIf test es
 unfolding countIf
 count-untimed test h [] = refl
 count-untimed test h (e ∷ es) = rw (h e, count-untimed test h es)

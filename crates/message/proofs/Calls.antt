@@ -67,11 +67,13 @@ module _ (l : List ℤ) (n i : ℕ) (m : i < n) (e : Entry) (h : e ≡ entryFrom
 
 -- the search for the first call: a turn
 module _ (es : List Entry) (i : ℕ) (m : i < length es) where
-  pub stops : {s : Stop} {fault : Fault} {line : ℕ} → s ≡ stopAt es i → s ≡ At fault line → matchedFrom es i (drop i es) ≡ At fault line
+  pub stops : {s : Stop} {fault : Fault} {line : ℕ} → s ≡ stopAt es i → s ≡ At fault line
+      → matchedFrom es i (drop i es) ≡ At fault line
   unfolding stopAt
   stops {s} {fault} {line} e f = matched-step es i m ∙ called (callFor es i (entryAt es i .body .role)) (sym e ∙ f)
     where
-      called : (o : Option Fault) → onCall o (entryAt es i .line) End ≡ At fault line → onCall o (entryAt es i .line) (matchedFrom es (i + 1) (drop (i + 1) es)) ≡ At fault line
+      called : (o : Option Fault) → onCall o (entryAt es i .line) End ≡ At fault line
+          → onCall o (entryAt es i .line) (matchedFrom es (i + 1) (drop (i + 1) es)) ≡ At fault line
       called none g = let z : _≡_ {A = ℕ} 0 1 = cc in absurd (omega arith)
       called (some x) g = g
 
@@ -79,6 +81,7 @@ module _ (es : List Entry) (i : ℕ) (m : i < length es) where
   unfolding stopAt
   goes-on {s} e f = sym (matched-step es i m ∙ called (callFor es i (entryAt es i .body .role)) (sym e ∙ f))
     where
-      called : (o : Option Fault) → onCall o (entryAt es i .line) End ≡ End → onCall o (entryAt es i .line) (matchedFrom es (i + 1) (drop (i + 1) es)) ≡ matchedFrom es (i + 1) (drop (i + 1) es)
+      called : (o : Option Fault) → onCall o (entryAt es i .line) End ≡ End
+          → onCall o (entryAt es i .line) (matchedFrom es (i + 1) (drop (i + 1) es)) ≡ matchedFrom es (i + 1) (drop (i + 1) es)
       called none g = refl
       called (some x) g = let z : _≡_ {A = ℕ} 0 1 = cc in absurd (omega arith)

@@ -33,7 +33,8 @@ module _ (es : List Entry) {s : Stop} (e : s ≡ matchedOf es) where
 -- ---- the outcome
 
 module _ (store : List ℤ) (sends link : List ℕ) where
-  pub misfit-links : (length link ≡ length sends → ⊥) → _≡_ {A = Outcome} (record { answer = Misfit; sends = sends; link = link }) (matching store sends link)
+  pub misfit-links : (length link ≡ length sends → ⊥)
+      → _≡_ {A = Outcome} (record { answer = Misfit; sends = sends; link = link }) (matching store sends link)
   unfolding matching fitting
   misfit-links h = rw (ne-eqb (length link) (length sends) h)
 
@@ -55,7 +56,8 @@ module _ (store : List ℤ) (sends link : List ℕ) where
         rw (eq-eqb (length link) (length sends) h, le-leb (length sends) (length store / 7) g, rw size at a, places-found store sends link h p e, links-cleared store sends link h p e)
 
 -- "any two outcomes allowed for the same inputs are equal"
-pub one-outcome : (store : List ℤ) (sends link : List ℕ) (a b : Outcome) → a ≡ matching store sends link → b ≡ matching store sends link → a ≡ b
+pub one-outcome : (store : List ℤ) (sends link : List ℕ) (a b : Outcome) → a ≡ matching store sends link
+    → b ≡ matching store sends link → a ≡ b
 one-outcome store sends link a b e f = e ∙ sym f
 
 -- ---- a store that holds some entries in front

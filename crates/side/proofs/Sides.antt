@@ -20,7 +20,8 @@ module _ (processor : ℕ) (m : Message) {t : ℤ} {r : Role} (e : t ≡ m .tag)
   unfolding sideFor
   side-sends f = rw (e, f)
 
-  pub side-receives : r ≡ Role.Receive m → Receives (record { sender = m .peer; receiver = processor; tag = t }) ≡ sideFor processor r
+  pub side-receives : r ≡ Role.Receive m
+      → Receives (record { sender = m .peer; receiver = processor; tag = t }) ≡ sideFor processor r
   unfolding sideFor
   side-receives f = rw (e, f)
 

@@ -1,5 +1,6 @@
 -- What a record is to the matching: a send or a receive under its key, "from p to q with type t", and the bucket of a key.
-use Prim.Native.Nat.{ℕ, _+_, _*_, _%_}
+use mathlib.Core.Path.{_≡_}
+use Prim.Native.Nat.{ℕ, _+_, _*_, _%_, _<_}
 use mathlib.Core.Bool.{Bool, false}
 use mathlib.Core.List.{List}
 use lib.Dec.{eqb}
@@ -28,6 +29,10 @@ sideAt l i = sideFor (entryFrom l i .body .processor) (entryFrom l i .body .role
 -- any function of the key would do: it decides how long a search takes, and not what it finds
 unfoldable pub bucketOf : Key → ℕ
 bucketOf k = (k .sender % 64 * 64 + k .receiver % 64 + natural (k .tag) % 1024 * 37) % 1024
+
+pub record Bucket (k : Key) (b : ℕ) : Type 0 where
+  pub is : b ≡ bucketOf k
+  pub low : b < 1024
 
 -- a send, or a receive, whose key is in the bucket
 abbrev pub sendsIn : ℕ → Side → Bool

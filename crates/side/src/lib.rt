@@ -1,7 +1,7 @@
 // What a stored record is to the matching: a send or a receive under a key, "from p to q with type t".
 ghost use mathlib.Core.Path.{_≡_};
 ghost use Rattle.paper.specs.Matching.{sameKey};
-ghost use Rattle.side.specs.Sides.{keyOf, sideFor, sideAt, bucketOf, sendUnder, receiveUnder};
+ghost use Rattle.side.specs.Sides.{keyOf, sideFor, sideAt, Bucket, sendUnder, receiveUnder};
 use paper::Role;
 
 // From whom to whom, with which tag.
@@ -85,7 +85,7 @@ pub fn receive_under(store: &[i64], i: usize, key: Key) -> bool
 
 // The bucket of a key, one of 1,024.
 pub fn bucket_of(key: Key) -> usize
-    ensures { λ r. ⌜ r ≡ bucketOf key ⌝ }
+    ensures { λ r. ⌜ Bucket key r ⌝ }
 {
     let tag = store::count_of(key.tag);
     (key.sender % 64 * 64 + key.receiver % 64 + tag % 1024 * 37) % 1024

@@ -8,7 +8,8 @@ use Rattle.paper.specs.Clock as paper
 use Rattle.paper.specs.Clock.{settled, impossible}
 use Rattle.paper.specs.Matching.{waitsOf}
 use Rattle.store.specs.Layout.{entriesIn}
-use Rattle.store.proofs.Laws.{length-entries, length-listed}
+use Rattle.store.proofs.Laws.{length-entries}
+use Rattle.store.proofs.Listed.{length-listed}
 use Rattle.clock.specs.Promise.{Outcome, outcome, outcomeOf}
 use Rattle.clock.specs.declared.Settled.{Settled}
 use Rattle.clock.specs.declared.Settled.the-variants.{Rounds, Impossible, Misfit}
@@ -38,7 +39,7 @@ module _ (store : List ℤ) (table sends : List ℕ) {originals : List ℤ} {bef
   paper-settles =
       rw kept
       (same-settled table (entriesIn store (length times))
-        (record { are-originals = o-is; are-befores = b-is; are-sends = rw (tables .places) (unfold placesOf in refl); are-latencies = l-is }))
+      (record { are-originals = o-is; are-befores = b-is; are-sends = rw (tables .places) (unfold placesOf in refl); are-latencies = l-is }))
 
   fit : Fit (length o) (length b) (length sends) (length l) (length times) (length spare)
   unfolding originalsOf beforesOf latenciesOf placesOf

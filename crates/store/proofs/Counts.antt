@@ -33,5 +33,6 @@ module _ {z : ℤ} (f : SFits w64 z) where
   pub counts : ltZ (toZ w64 (ofZ w64 z)) (pos 0) ≡ false → natAbs (toZ w64 (ofZ w64 z)) ≡ natural z
   counts e = rw (toZ-ofZ f) (whole z (rw (toZ-ofZ f) at e))
 
-  pub counts-fit : ltZ (toZ w64 (ofZ w64 z)) (pos 0) ≡ false → T (nonNeg (toZ w64 (ofZ w64 z))) × Fits w64 (natAbs (toZ w64 (ofZ w64 z)))
+  pub counts-fit : ltZ (toZ w64 (ofZ w64 z)) (pos 0) ≡ false
+      → T (nonNeg (toZ w64 (ofZ w64 z))) × Fits w64 (natAbs (toZ w64 (ofZ w64 z)))
   counts-fit e = rw (toZ-ofZ f) (fitting z f (rw (toZ-ofZ f) at e))

@@ -1,18 +1,18 @@
 -- The laws of the store: what is put is taken out again, and records laid one after the other are read as the records.
-use Prim.Native.Nat.{ℕ, zero, suc, _+_, _*_, _/_, _%_, _<_, _^_}
-use mathlib.Core.Path.{_≡_, refl, ap}
+use Prim.Native.Nat.{ℕ, suc, _+_, _*_, _/_, _%_, _<_, _^_}
+use mathlib.Core.Path.{_≡_, refl}
 use mathlib.Core.List.{List, [], _∷_, _++_, append-assoc, append-nil}
 use native.Mathlib.Omega.{arith}
 use borrow.Author.Tests.{lt-ltb}
 use lib.Dec.{leb·suc-suc}
-use lib.ListN.{length, getD, drop, length-append, length-drop}
+use lib.ListN.{length, drop, length-append, length-drop}
 use lib.Seq.{take-at, drop-append-add, drop-drop}
 use lib.IntN.{ℤ}
-use Rattle.paper.specs.Clock.{listed}
 use Rattle.paper.specs.Matching.{entryAt}
 use Rattle.paper.specs.declared.Role.{Role}
 use Rattle.paper.specs.declared.Role.the-variants.{Neither, Send, Receive}
 use Rattle.paper.specs.declared.Entry.{Entry}
+use Rattle.store.proofs.Listed.{listed-same, length-listed, listed-at}
 use Rattle.store.specs.Layout.{kindOf, messageIn, numbersOf, natural, roleFrom, messageFrom, entryOf, entryFrom, entriesIn, putAt, laid, Small, AllSmall}
 
 -- ---- one record
@@ -61,10 +61,6 @@ entry-later e more i =
     let b : suc (suc (suc (suc (suc (suc (suc (length more))))))) / 7 ≡ suc (length more / 7) = omega arith in
     rw (a, b, leb·suc-suc)
 
-pub listed-same : {A : Type 0} (n : ℕ) (f g : ℕ → A) → ((i : ℕ) → i < n → f i ≡ g i) → listed n f ≡ listed n g
-listed-same zero f g h = refl
-listed-same (suc n) f g h = rw (h 0 (omega arith), listed-same n (λ i. f (suc i)) (λ i. g (suc i)) (λ i l. h (suc i) (omega arith)))
-
 -- the records that are laid are the records that are read
 pub read-laid : (es : List Entry) (more : List ℤ) → AllSmall es → entriesIn (laid es ++ more) (length es) ≡ es
 unfolding entriesIn laid AllSmall
@@ -89,15 +85,6 @@ put-laid es e l h =
     rw (all, lt-ltb k (length l / 7) h, take-at (laid es) (drop (7 * k) l) (7 * k) n, laid-snoc es e, at, ← drop-drop 7 (7 * k) l, ← drop-append-add (laid es) (drop (7 * k) l) 7, n)
 
 -- ---- the entries of a store, place by place
-
-pub length-listed : {A : Type 0} (n : ℕ) (f : ℕ → A) → length (listed n f) ≡ n
-length-listed zero f = refl
-length-listed (suc n) f = ap suc (length-listed n (λ i. f (suc i)))
-
-pub listed-at : {A : Type 0} (n : ℕ) (f : ℕ → A) (i : ℕ) (d : A) → i < n → getD (listed n f) i d ≡ f i
-listed-at zero f i d h = absurd (omega arith)
-listed-at (suc n) f zero d h = refl
-listed-at (suc n) f (suc i) d h = listed-at n (λ j. f (suc j)) i d (omega arith)
 
 pub length-entries : (l : List ℤ) (n : ℕ) → length (entriesIn l n) ≡ n
 unfolding entriesIn

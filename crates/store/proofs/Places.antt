@@ -57,7 +57,8 @@ module _ (l : List ℤ) (at : ℕ) where
   message-at n p t ne pe te = rw (getD-drop at l 4 (pos 0), getD-drop at l 5 (pos 0), getD-drop at l 6 (pos 0), ne, pe, te)
 
   pub entry-at : (line p k : ℕ) (t : ℤ) (m : Message) (r : Role) → line ≡ natural (getD l (at + 1) (pos 0))
-      → p ≡ natural (getD l (at + 2) (pos 0)) → k ≡ natural (getD l (at + 3) (pos 0)) → m ≡ messageFrom (drop at l) → r ≡ roleFrom k m
+      → p ≡ natural (getD l (at + 2) (pos 0)) → k ≡ natural (getD l (at + 3) (pos 0)) → m ≡ messageFrom (drop at l)
+      → r ≡ roleFrom k m
       → t ≡ getD l at (pos 0)
       → _≡_ {A = Entry} (record { line = line; body = record { time = t; processor = p % 64; role = r } }) (entryOf (drop at l))
   unfolding entryOf

@@ -1,19 +1,17 @@
 -- The loop over the lines: what holds at its head, the ways out, and a line listed or passed over.
-use Prim.Native.Nat.{ℕ, zero, suc, _+_, _-_, _*_, _/_, _≤_, _<_}
+use Prim.Native.Nat.{ℕ, _+_, _-_, _*_, _/_, _≤_, _<_}
 use mathlib.Core.Path.{_≡_, refl, sym, ap, _∙_}
-use mathlib.Core.List.{List, [], _∷_, _++_, append-assoc, append-nil}
-use mathlib.Core.Bool.{Bool, true, false, cond}
-use native.Mathlib.Numerals.{add-one}
-use native.Mathlib.Nat.{add-suc}
+use mathlib.Core.List.{List, [], _∷_, _++_, append-nil}
+use mathlib.Core.Bool.{Bool, true, false}
 use native.Mathlib.Omega.{arith}
-use lib.ListN.{length, take, drop, getD, set, length-append, length-drop, length-set, drop-of-length-le}
-use lib.Seq.{take-length, drop-drop, append-snoc}
+use lib.ListN.{length, take, drop, getD, set, length-append, length-set, drop-of-length-le}
+use lib.Seq.{append-snoc}
 use lib.IntN.{ℤ, pos}
 use lib.Signed.{ltZ}
 use borrow.Author.Tests.{le-leb, lt-leb}
 use Rattle.bytes.specs.Bytes.{indexOf, slice}
 use Rattle.paper.specs.Line.{lineOf}
-use Rattle.paper.specs.Reading.{Lines, done, unended, ended, linesOf, State, Reading, start, checked, withListed, withPassed, withEntry, onLine, readFrom, readOf}
+use Rattle.paper.specs.Reading.{linesOf, State, start, checked, withListed, withPassed, onLine, readFrom, readOf}
 use Rattle.paper.specs.declared.Choice.{Choice}
 use Rattle.paper.specs.declared.Fault.{Fault}
 use Rattle.paper.specs.declared.Fault.the-variants as Fault
@@ -24,10 +22,10 @@ use Rattle.paper.specs.declared.Line.the-variants.{Refused, Passed, Listed}
 use Rattle.paper.specs.declared.Stop.{Stop}
 use Rattle.paper.specs.declared.Stop.the-variants.{End, At}
 use Rattle.reading.specs.Joined.{behind}
-use Rattle.reading.proofs.Lines.{first-line, no-line}
+use Rattle.reading.proofs.Found.{found-at, unended-here, ended-here}
 use Rattle.reading.proofs.Tidy.{tidy-record}
 use Rattle.store.specs.Layout.{laid, putAt}
-use Rattle.store.proofs.Laws.{length-laid, put-laid}
+use Rattle.store.proofs.Laws.{put-laid}
 use Rattle.trace.specs.Read.{ReadInto, answerOf, storeAfter}
 
 -- the state by its parts
@@ -85,29 +83,20 @@ module _ {choice : Choice} {s : List ℕ} {store₀ : List ℤ} {most : ℕ} {st
   -- the search for the LF, with some bytes left
   module _ (end : ℕ) (some-left : at < length s) (found : end ≡ at + indexOf 10 (slice at (length s) s)) where
     place : end ≡ at + indexOf 10 (drop at s)
-    place = let e : slice at (length s) s ≡ drop at s = unfold slice in rw take-length in rw e at found
+    place = found-at s at end found
 
     -- "no LF at its end (5)"
     pub at-unended : end ≡ length s → ReadInto choice s store₀ (record { stop = At Fault.Form n; listed = listed; passed = passed }) store
     unfolding readFrom
-    at-unended e = stopped (At Fault.Form n) (rw (no-line (drop at s) (simp length-drop (omega arith)) (simp length-drop (omega (arith, place)))))
+    at-unended e = stopped (At Fault.Form n) (rw (unended-here s at end found some-left e))
 
     module _ (is-line : end ≡ length s → ⊥) (within : end ≤ length s) where
-      line-bytes : take (end - at) (drop at s) ≡ take (indexOf 10 (drop at s)) (drop at s)
-      line-bytes = let e : end - at ≡ indexOf 10 (drop at s) = omega (arith, place) in rw e
-
-      later-bytes : drop (suc (indexOf 10 (drop at s))) (drop at s) ≡ drop (end + 1) s
-      later-bytes = rw (place, add-one, ← add-suc) (drop-drop (suc (indexOf 10 (drop at s))) at s)
-
-      cut : linesOf (drop at s) ≡ ended (take (end - at) (drop at s)) (linesOf (drop (end + 1) s))
-      cut = first-line (drop at s) (simp length-drop (omega (arith, place))) ∙ rw (← line-bytes, later-bytes)
-
       -- what the line comes to, and the lines after it
       onward : readFrom choice most (linesOf (drop at s)) n (state last listed passed)
           ≡ onLine n (state last listed passed) (checked most (state last listed passed) (lineOf choice (take (end - at) (drop at s))))
           (λ st. readFrom choice most (linesOf (drop (end + 1) s)) (n + 1) st)
       unfolding readFrom
-      onward = rw cut
+      onward = rw (ended-here s at end found is-line within)
 
       module _ (x : Line) (is : x ≡ lineOf choice (take (end - at) (drop at s))) where
         refuses : (fault : Fault) → checked most (state last listed passed) x ≡ Refused fault

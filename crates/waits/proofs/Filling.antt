@@ -11,7 +11,8 @@ use Rattle.paper.specs.Clock.{listed}
 use Rattle.paper.specs.Matching.{entryAt}
 use Rattle.paper.specs.declared.Entry.{Entry}
 use Rattle.store.specs.Layout.{entryFrom, entriesIn}
-use Rattle.store.proofs.Laws.{length-entries, entry-in, length-listed, listed-at}
+use Rattle.store.proofs.Laws.{length-entries, entry-in}
+use Rattle.store.proofs.Listed.{length-listed, listed-at}
 
 -- the first i of n places hold what the rule says
 pub record Filling {A : Type 0} (d : A) (rule : ℕ → A) (n : ℕ) (out : List A) (i : ℕ) : Type 0 where

@@ -11,7 +11,7 @@ use Rattle.paper.specs.Clock.{listed, settle}
 use Rattle.paper.specs.Matching as paper
 use Rattle.paper.specs.Matching.{lastOn, sendOf}
 use Rattle.paper.specs.declared.Entry.{Entry}
-use Rattle.store.proofs.Laws.{length-listed, listed-at}
+use Rattle.store.proofs.Listed.{length-listed, listed-at}
 use Rattle.matching.proofs.Belong.{processorAt}
 use Rattle.clock.specs.Promise.{place, waitsOf}
 use Rattle.waits.specs.Tables.{placeOr, originalAt, latencyAt, originalsOf, beforesOf, latenciesOf}

@@ -39,7 +39,9 @@ same-length : tie.Need-same-length Inv-loop μ-loop
 same-length c = c .before .loop .inv .1 .size
 
 same-length-2 : tie.Need-same-length-2 Inv-loop μ-loop
-same-length-2 c = c .before .loop .inv .1 .buckets ∙ sym (chain-begins (c .before .before .before .before .args .store .now) (c .before .before .before .before .args .link .now) _ (c .before .before .before .before .pre) .buckets)
+same-length-2 c =
+    let start = c .before .before .before .before in
+    c .before .loop .inv .1 .buckets ∙ sym (start .pre .buckets)
 
 returns : tie.Need-returns Inv-loop μ-loop
 returns c =

@@ -11,17 +11,17 @@ use Rattle.chains.proofs.find_sends.Tie as tie
 returns : tie.Need-returns
 returns c = not-found _ _ _ (c .if1 .taken)
 
-cleared-requires : tie.Need-cleared-requires
-cleared-requires c κs = search needs
+each-bucket-requires : tie.Need-each-bucket-requires
+each-bucket-requires c κs = search needs
 
 slice-aggregate-chain-sends : tie.Need-slice-aggregate-chain-sends
 slice-aggregate-chain-sends c = search needs
 
 chain-sends-requires : tie.Need-chain-sends-requires
-chain-sends-requires c κs = rw (c .before .before .before .if1 .left) (c .before .before .cleared .ensures)
+chain-sends-requires c κs = rw (c .before .before .before .if1 .left) (c .before .before .each-bucket .ensures)
 
-cleared-requires-2 : tie.Need-cleared-requires-2
-cleared-requires-2 c κs = search needs
+each-bucket-requires-2 : tie.Need-each-bucket-requires-2
+each-bucket-requires-2 c κs = search needs
 
 slice-aggregate-place-sends : tie.Need-slice-aggregate-place-sends
 slice-aggregate-place-sends c = search needs
@@ -30,7 +30,11 @@ slice-aggregate-place-sends-2 : tie.Need-slice-aggregate-place-sends-2
 slice-aggregate-place-sends-2 c = search needs
 
 place-sends-requires : tie.Need-place-sends-requires
-place-sends-requires c κs = place-begins _ _ _ _ _ _ refl (rw (c .before .before .before .before .before .before .before .before .before .before .before .before .if1 .left) at (c .before .before .before .before .before .before .before .before .chain-sends .ensures)) (c .before .before .before .before .cleared2 .ensures)
+place-sends-requires c κs =
+    let second = c .before .before .before .before in
+    let chained = second .before .before .before .before in
+    let fit = chained .before .before .before .before .if1 .left in
+    place-begins _ _ _ _ _ _ refl (rw fit at (chained .chain-sends .ensures)) (second .each-bucket2 .ensures)
 
 clear-requires : tie.Need-clear-requires
 clear-requires c κs = search needs
@@ -43,18 +47,21 @@ same-length-2 c = search needs
 
 returns-2 : tie.Need-returns-2
 returns-2 c =
-    let p = c .before .before .before .before .before .before .before .before .before .place-sends .ensures in
-    all-found _ _ _ (c .before .before .before .before .before .before .before .before .before .before .before .before .before .before .before .before .before .before .before .before .before .before .if1 .left) (all-placed _ _ _ (p .size) (p .placed)) (c .before .before .clear .ensures ∙ ap (λ (k : ℕ). replicate k 0) (p .chained .size))
+    let placed = c .before .before .before .before .before .before .before .before .before in
+    let chained = placed .before .before .before .before .before .before .before .before .before in
+    let fit = chained .before .before .before .before .if1 .left in
+    let p = placed .place-sends .ensures in
+    all-found _ _ _ fit (all-placed _ _ _ (p .size) (p .placed)) (c .before .before .clear .ensures ∙ ap (λ (k : ℕ). replicate k 0) (p .chained .size))
 
 pub find-sends-spec : {M : Type 1} → statement M
 find-sends-spec =
     tie.close
     (tie.spec
     returns
-    cleared-requires
+    each-bucket-requires
     slice-aggregate-chain-sends
     chain-sends-requires
-    cleared-requires-2
+    each-bucket-requires-2
     slice-aggregate-place-sends
     slice-aggregate-place-sends-2
     place-sends-requires

@@ -32,9 +32,9 @@ shared-slice-read-s c = search needs
 
 loop-less : tie.Need-loop-less Inv-loop μ-loop
 loop-less c =
-    let a = c .before .before .before .before .before .before .args in
+    let start = c .before .before .before .before .before .before in
     let l = c .before .before .before .before .loop in
-    omega (arith, forward-less _ _ (a .key) _ (c .before .before .before .before .before .before .pre) (l .s) (l .inv) (c .before .before .before .loop-test .taken))
+    omega (arith, forward-less _ _ (start .args .key) _ (start .pre) (l .s) (l .inv) (c .before .before .before .loop-test .taken))
 
 loop-again : tie.Need-loop-again Inv-loop μ-loop
 loop-again c =

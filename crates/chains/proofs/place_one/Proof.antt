@@ -1,9 +1,7 @@
 -- `chains::place_one` meets its contract: only a receive has a send, which the search finds, and is put behind its bucket.
 use mathlib.Core.Path.{sym, _∙_}
-use native.Mathlib.Omega.{arith}
 use borrow.Author.Needs.{needs}
-use Rattle.side.proofs.Keys.{bucket-low}
-use Rattle.chains.proofs.Place.{place-none, place-receive, search-ready, neither-none, neither-receives, send-none, send-receives}
+use Rattle.chains.proofs.Place.{place-neither, place-send, place-receive, search-ready}
 use Rattle.chains.proofs.place_one.Statement.{statement}
 use Rattle.chains.proofs.place_one.Tie as tie
 
@@ -35,22 +33,25 @@ bucket-of-requires : tie.Need-bucket-of-requires
 bucket-of-requires c κs = search needs
 
 mul-from : tie.Need-mul-from
-mul-from c = omega (arith, bucket-low (c .before .before .side .given .0 .0), c .bucket-of .ensures, c .before .before .before .before .before .before .before .before .before .pre .1 .buckets)
+mul-from c = search needs
 
 slice-read-from : tie.Need-slice-read-from
-slice-read-from c = omega (arith, bucket-low (c .before .before .before .side .given .0 .0), c .before .bucket-of .ensures, c .before .before .before .before .before .before .before .before .before .before .pre .1 .buckets)
+slice-read-from c = search needs
 
 mul-send-behind : tie.Need-mul-send-behind
-mul-send-behind c = omega (arith, bucket-low (c .before .before .before .before .before .side .given .0 .0), c .before .before .before .bucket-of .ensures, c .before .before .before .before .before .before .before .before .before .before .before .before .pre .1 .buckets)
+mul-send-behind c = search needs
 
 shared-slice-read-send-behind : tie.Need-shared-slice-read-send-behind
-shared-slice-read-send-behind c = omega (arith, bucket-low (c .before .before .before .before .before .before .side .given .0 .0), c .before .before .before .before .bucket-of .ensures, c .before .before .before .before .before .before .before .before .before .before .before .before .before .pre .1 .chained .buckets)
+shared-slice-read-send-behind c = search needs
 
 send-behind-requires : tie.Need-send-behind-requires
 send-behind-requires c κs =
-    let h = c .before .before .before .before .before .before .before .before .before .before .before .before .before .pre in
-    let k = c .before .before .before .before .before .before .side .given in
-    rw (c .before .before .before .before .bucket-of .ensures) (search-ready _ _ _ _ _ _ _ (h .0) (h .1) (k .0 .0) (sym (c .before .before .before .before .before .before .before .before .side-at .ensures) ∙ k .1))
+    let bucket = c .before .before .before .before in
+    let known = bucket .before .before in
+    let side = known .before .before in
+    let h = side .before .before .before .before .before .pre in
+    let k = known .side .given in
+    rw (bucket .bucket-of .ensures .is) (search-ready _ _ _ _ _ _ _ (h .0) (h .1) (k .0 .0) (sym (side .side-at .ensures) ∙ k .1))
 
 mul-sends-3 : tie.Need-mul-sends-3
 mul-sends-3 c = search needs
@@ -68,28 +69,28 @@ add-seen : tie.Need-add-seen
 add-seen c = search needs
 
 mul-seen : tie.Need-mul-seen
-mul-seen c = omega (arith, bucket-low (c .before .before .before .before .before .before .before .side .given .0 .0), c .before .before .before .before .before .bucket-of .ensures, c .before .before .before .before .before .before .before .before .before .before .before .before .before .before .pre .1 .buckets)
+mul-seen c = search needs
 
 slice-write-seen : tie.Need-slice-write-seen
-slice-write-seen c = omega (arith, bucket-low (c .before .before .before .before .before .before .before .side .given .0 .0), c .before .before .before .before .before .bucket-of .ensures, c .before .before .before .before .before .before .before .before .before .before .before .before .before .before .pre .1 .buckets)
+slice-write-seen c = search needs
 
 same-length : tie.Need-same-length
 same-length c = search needs
 
 returns : tie.Need-returns
 returns c =
-    let h = c .before .before .before .before .before .before .before .pre in
-    let e = c .before .before .side-at .ensures in
-    place-none _ _ _ _ _ _ _ (h .0) (h .1) (neither-none _ _ _ (h .0) e (c .enum-told .given .1)) (neither-receives _ _ _ (h .0) e (c .enum-told .given .1))
+    let side = c .before .before in
+    let h = side .before .before .before .before .before .pre in
+    place-neither _ _ _ _ _ _ _ (h .0) (h .1) (side .side-at .ensures) (c .enum-told .given .1)
 
 same-length-2 : tie.Need-same-length-2
 same-length-2 c = search needs
 
 returns-2 : tie.Need-returns-2
 returns-2 c =
-    let h = c .before .before .before .before .before .before .before .pre in
-    let e = c .before .before .side-at .ensures in
-    place-none _ _ _ _ _ _ _ (h .0) (h .1) (send-none _ _ _ (h .0) e (c .enum-told2 .given .1)) (send-receives _ _ _ (h .0) e (c .enum-told2 .given .1))
+    let side = c .before .before in
+    let h = side .before .before .before .before .before .pre in
+    place-send _ _ _ _ _ _ _ (h .0) (h .1) (side .side-at .ensures) (c .enum-told2 .given .1)
 
 same-length-3 : tie.Need-same-length-3
 same-length-3 c = search needs
@@ -102,10 +103,15 @@ same-length-5 c = search needs
 
 returns-3 : tie.Need-returns-3
 returns-3 c =
-    let h = c .before .before .before .before .before .before .before .before .before .before .before .before .before .before .pre in
-    let k = c .before .before .before .before .before .before .before .side .given in
-    let b = c .before .before .before .before .before .bucket-of .ensures in
-    rw b (place-receive _ _ _ _ _ _ _ (h .0) (h .1) (k .0 .0) (sym (c .before .before .before .before .before .before .before .before .before .side-at .ensures) ∙ k .1) (c .send-behind .result) (rw (h .1 .chained .size, b) at (c .send-behind .ensures)))
+    let bucket = c .before .before .before .before .before in
+    let known = bucket .before .before in
+    let side = known .before .before in
+    let h = side .before .before .before .before .before .pre in
+    let k = known .side .given in
+    let b = bucket .bucket-of .ensures .is in
+    rw b
+    (place-receive _ _ _ _ _ _ _ (h .0) (h .1) (k .0 .0) (sym (side .side-at .ensures) ∙ k .1) (c .send-behind .result)
+    (rw (h .1 .chained .size, b) at (c .send-behind .ensures)))
 
 pub place-one-spec : {M : Type 1} → statement M
 place-one-spec =

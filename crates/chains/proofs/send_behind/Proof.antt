@@ -12,14 +12,17 @@ start-from-requires c κs = search needs
 
 next-send-requires : tie.Need-next-send-requires
 next-send-requires c κs =
-    let a = c .before .before .before .before .args in
-    rw (c .start-from .ensures)
-    (may-start _ (a .sends .now) _ (a .key) (a .head) (a .from) (c .before .before .before .before .pre) (c .before .prior-receive .result) (c .before .prior-receive .ensures))
+    let start = c .before .before .before .before in
+    let a = start .args in
+    let prior = c .before .prior-receive in
+    rw (c .start-from .ensures) (may-start _ (a .sends .now) _ (a .key) (a .head) (a .from) (start .pre) (prior .result) (prior .ensures))
 
 returns : tie.Need-returns
 returns c =
-    let a = c .before .before .before .before .before .args in
-    found _ (a .sends .now) _ (a .key) (a .head) (a .from) (c .before .before .before .before .before .pre) (c .before .before .prior-receive .result) _ (c .before .before .prior-receive .ensures)
+    let start = c .before .before .before .before .before in
+    let a = start .args in
+    let prior = c .before .before .prior-receive in
+    found _ (a .sends .now) _ (a .key) (a .head) (a .from) (start .pre) (prior .result) _ (prior .ensures)
     (rw (← c .before .start-from .ensures) (c .next-send .ensures))
 
 pub send-behind-spec : {M : Type 1} → statement M

@@ -26,10 +26,12 @@ shared-slice-read-s c = search needs
 
 returns : tie.Need-returns
 returns c =
-    let a = c .before .before .before .before .before .before .before .before .args in
-    let h = c .before .before .before .before .before .before .before .before .pre in
-    let e = c .before .before .before .before .before .before .entry-at in
-    calls-no-send (a .store .now) _ _ (h .0) (e .result) (e .ensures) (c .before .before .before .role .given .0 .0) (c .before .before .before .role .given .1) (a .sends .now) (h .1) (c .if1 .taken)
+    let known = c .before .before .before in
+    let entry = known .before .before .before in
+    let start = entry .before .before in
+    let m = known .role .given in
+    let e = entry .entry-at in
+    calls-no-send _ _ _ (start .pre .0) (e .result) (e .ensures) (m .0 .0) (m .1) (start .args .sends .now) (start .pre .1) (c .if1 .taken)
 
 role-at-requires : tie.Need-role-at-requires
 role-at-requires c κs = search needs
@@ -39,12 +41,14 @@ length-sent-requires c κs = search needs
 
 returns-2 : tie.Need-returns-2
 returns-2 c =
-    let a = c .before .before .before .before .before .before .before .before .before .before .before .args in
-    let h = c .before .before .before .before .before .before .before .before .before .before .before .pre in
-    let e = c .before .before .before .before .before .before .before .before .before .entry-at in
-    let m = c .before .before .before .before .before .before .role .given in
-    calls-other-length (a .store .now) _ _ (h .0) (e .result) (e .ensures) (m .0 .0) (m .1) (a .sends .now) (h .1) (c .before .length-sent .result) (c .before .before .before .if1 .left)
-    (c .before .length-sent .ensures ∙ ap lengthSent (c .before .before .role-at .ensures)) (c .if2 .taken)
+    let known = c .before .before .before .before .before .before in
+    let entry = known .before .before .before in
+    let start = entry .before .before in
+    let m = known .role .given in
+    let e = entry .entry-at in
+    let sent = c .before .length-sent in
+    calls-other-length _ _ _ (start .pre .0) (e .result) (e .ensures) (m .0 .0) (m .1) (start .args .sends .now) (start .pre .1)
+    (sent .result) (c .before .before .before .if1 .left) (sent .ensures ∙ ap lengthSent (c .before .before .role-at .ensures)) (c .if2 .taken)
 
 returns-3 : tie.Need-returns-3
 returns-3 c =
@@ -58,12 +62,14 @@ returns-4 c =
 
 returns-5 : tie.Need-returns-5
 returns-5 c =
-    let a = c .before .before .before .before .before .before .before .before .before .before .before .args in
-    let h = c .before .before .before .before .before .before .before .before .before .before .before .pre in
-    let e = c .before .before .before .before .before .before .before .before .before .entry-at in
-    let m = c .before .before .before .before .before .before .role .given in
-    calls-nothing (a .store .now) _ _ (h .0) (e .result) (e .ensures) (m .0 .0) (m .1) (a .sends .now) (h .1) (c .before .length-sent .result) (c .before .before .before .if1 .left)
-    (c .before .length-sent .ensures ∙ ap lengthSent (c .before .before .role-at .ensures)) (c .if2 .left)
+    let known = c .before .before .before .before .before .before in
+    let entry = known .before .before .before in
+    let start = entry .before .before in
+    let m = known .role .given in
+    let e = entry .entry-at in
+    let sent = c .before .length-sent in
+    calls-nothing _ _ _ (start .pre .0) (e .result) (e .ensures) (m .0 .0) (m .1) (start .args .sends .now) (start .pre .1)
+    (sent .result) (c .before .before .before .if1 .left) (sent .ensures ∙ ap lengthSent (c .before .before .role-at .ensures)) (c .if2 .left)
 
 pub call-at-spec : {M : Type 1} → statement M
 call-at-spec =

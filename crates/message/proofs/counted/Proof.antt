@@ -10,7 +10,8 @@ use Rattle.message.proofs.counted.Statement.{statement}
 use Rattle.message.proofs.counted.Tie as tie
 
 abbrev Inv-loop : tie.InvT-loop
-Inv-loop store n received₀ sent₀ i₀ received sent i = (i ≤ n) × (received ≤ i) × (sent ≤ i) × (received ≡ count (receives store) i) × (sent ≡ count (sendings store) i)
+Inv-loop store n received₀ sent₀ i₀ received sent i =
+    (i ≤ n) × (received ≤ i) × (sent ≤ i) × (received ≡ count (receives store) i) × (sent ≡ count (sendings store) i)
 
 abbrev μ-loop : tie.MeasureT-loop
 μ-loop store n received₀ sent₀ i₀ received sent i = n - i

@@ -13,7 +13,9 @@ use Rattle.message.proofs.first_call.Statement.{statement}
 use Rattle.message.proofs.first_call.Tie as tie
 
 abbrev Inv-loop : tie.InvT-loop
-Inv-loop store sends i₀ i = (i ≤ length sends) × (matchedFrom (entriesIn store (length sends)) i (drop i (entriesIn store (length sends))) ≡ matchedOf (entriesIn store (length sends)))
+Inv-loop store sends i₀ i =
+    let es = entriesIn store (length sends) in
+    (i ≤ length sends) × (matchedFrom es i (drop i es) ≡ matchedOf es)
 
 abbrev μ-loop : tie.MeasureT-loop
 μ-loop store sends i₀ i = length sends - i
@@ -30,8 +32,10 @@ enum-known-stop c = search needs
 
 returns : tie.Need-returns Inv-loop μ-loop
 returns c =
-    let l = c .before .before .before .before .before .loop in
-    sym (stops _ (l .i) (rw length-entries (c .before .before .before .before .loop-test .taken)) (c .before .before .before .call-at .ensures) (c .before .stop .given .1)) ∙ l .inv .1
+    let called = c .before .before .before in
+    let turn = called .before in
+    let l = turn .before .loop in
+    sym (stops _ (l .i) (rw length-entries (turn .loop-test .taken)) (called .call-at .ensures) (c .before .stop .given .1)) ∙ l .inv .1
 
 enum-told : tie.Need-enum-told Inv-loop μ-loop
 enum-told c = search needs
@@ -44,8 +48,11 @@ loop-less c = omega arith
 
 loop-again : tie.Need-loop-again Inv-loop μ-loop
 loop-again c =
-    let l = c .before .before .before .before .loop in
-    (omega arith, goes-on _ (l .i) (rw length-entries (c .before .before .before .loop-test .taken)) (c .before .before .call-at .ensures) (c .enum-told .given .1) ∙ l .inv .1)
+    let called = c .before .before in
+    let turn = called .before in
+    let l = turn .before .loop in
+    let quiet = goes-on _ (l .i) (rw length-entries (turn .loop-test .taken)) (called .call-at .ensures) (c .enum-told .given .1) in
+    (omega arith, quiet ∙ l .inv .1)
 
 returns-2 : tie.Need-returns-2 Inv-loop μ-loop
 returns-2 c =

@@ -14,7 +14,9 @@ find-sends-requires : tie.Need-find-sends-requires
 find-sends-requires c κs = search needs
 
 answered-requires : tie.Need-answered-requires
-answered-requires c κs = found-self _ _ _ (c .before .before .before .before .before .before .before .before .before .if1 .left) _ (c .before .before .before .before .before .find-sends .ensures)
+answered-requires c κs =
+    let found = c .before .before .before .before .before in
+    found-self _ _ _ (found .before .before .before .before .if1 .left) _ (found .find-sends .ensures)
 
 same-length : tie.Need-same-length
 same-length c = search needs
@@ -23,7 +25,10 @@ same-length-2 : tie.Need-same-length-2
 same-length-2 c = search needs
 
 returns-3 : tie.Need-returns-3
-returns-3 c = fits _ _ _ (c .before .before .before .before .before .before .before .before .before .before .if1 .left) _ (c .before .before .before .before .before .before .find-sends .ensures) (c .before .before .before .before .before .before .before .before .before .if2 .left) (c .answered .ensures)
+returns-3 c =
+    let found = c .before .before .before .before .before .before in
+    let room = found .before .before .before in
+    fits _ _ _ (room .before .if1 .left) _ (found .find-sends .ensures) (room .if2 .left) (c .answered .ensures)
 
 pub match-messages-spec : {M : Type 1} → statement M
 match-messages-spec =

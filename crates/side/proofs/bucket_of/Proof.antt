@@ -20,7 +20,11 @@ add-result-2 : tie.Need-add-result-2
 add-result-2 c = search needs
 
 returns : tie.Need-returns
-returns c = bucket-is (c .before .before .before .before .args .key) (c .before .before .count-of .ensures) (search needs)
+returns c =
+    record {
+      is = bucket-is (c .before .before .before .before .args .key) (c .before .before .count-of .ensures) (search needs);
+      low = search needs;
+    }
 
 pub bucket-of-spec : {M : Type 1} → statement M
 bucket-of-spec =

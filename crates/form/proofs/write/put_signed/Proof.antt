@@ -1,9 +1,7 @@
 -- No room before the places are counted, no room for all of it, and both parts stored.
-use Prim.Native.Nat.{_/_}
 use native.Mathlib.Omega.{arith}
 use borrow.Author.Needs.{needs}
-use Rattle.form.proofs.Shown.{places-high}
-use Rattle.form.proofs.Puts.{no-room, short-sign, signed-no-room, signed-stored}
+use Rattle.form.proofs.Puts.{no-room, short-signed, signed-no-room, signed-stored}
 use Rattle.form.proofs.write.put_signed.Statement.{statement}
 use Rattle.form.proofs.write.put_signed.Tie as tie
 
@@ -17,10 +15,10 @@ sign-length-requires : tie.Need-sign-length-requires
 sign-length-requires c κs = search needs
 
 add-n : tie.Need-add-n
-add-n c = omega (arith, short-sign (c .before .before .before .before .args .minus), places-high 8 (c .before .before .before .before .args .size / 1000000))
+add-n c = omega (arith, short-signed _ _ _ _ (c .sign-length .ensures) (c .before .places .ensures))
 
 add-n-2 : tie.Need-add-n-2
-add-n-2 c = omega (arith, short-sign (c .before .before .before .before .args .minus), places-high 8 (c .before .before .before .before .args .size / 1000000))
+add-n-2 c = omega (arith, short-signed _ _ _ _ (c .sign-length .ensures) (c .before .places .ensures))
 
 sub-if2 : tie.Need-sub-if2
 sub-if2 c = search needs
@@ -29,7 +27,7 @@ returns-2 : tie.Need-returns-2
 returns-2 c =
     let k = c .before in
     let a = k .before .before .before .before .args in
-    signed-no-room (a .room .now) (a .at) (a .minus) (a .size) _ _ (k .sign-length .ensures) (k .before .places .ensures) (omega arith)
+    signed-no-room (a .minus) (a .size) _ _ (k .sign-length .ensures) (k .before .places .ensures) (a .room .now) (a .at) (omega arith)
 
 put-sign-requires : tie.Need-put-sign-requires
 put-sign-requires c κs = search needs
@@ -52,7 +50,7 @@ returns-3 c =
     let m = z .before .before .before .before in
     let k = m .before .before .before in
     let a = k .before .before .before .before .args in
-    signed-stored (a .room .now) (a .at) (a .minus) (a .size) _ _ (k .sign-length .ensures) (k .before .places .ensures) _ _ (omega arith) (m .put-sign .ensures) (z .put-size .ensures)
+    signed-stored (a .minus) (a .size) _ _ (k .sign-length .ensures) (k .before .places .ensures) (a .room .now) (a .at) _ _ (omega arith) (m .put-sign .ensures) (z .put-size .ensures)
 
 pub put-signed-spec : {M : Type 1} → statement M
 put-signed-spec =

@@ -1,0 +1,151 @@
+-- "reading it again under that table and choice, if it is within the size limit, gives those times and moves none"
+use Prim.Native.Nat.{ℕ, _≤_, _<_}
+use native.Mathlib.Omega.{arith}
+use mathlib.Core.Path.{_≡_, refl, sym, ap, _∙_}
+use mathlib.Core.Bool.{Bool, true, false}
+use mathlib.Core.List.{List}
+use lib.ListN.{length}
+use lib.IntN.{ℤ}
+use lib.Signed.{<ℤ-irrefl}
+use Rattle.paper.specs.Clock.{timeAt}
+use Rattle.paper.specs.Reading.{State, Reading, linesOf, readOf, start}
+use Rattle.paper.specs.Written.{writtenFrom}
+use Rattle.paper.specs.Answer.{Inputs, written as bytes}
+use Rattle.paper.specs.declared.Choice.{Choice}
+use Rattle.paper.specs.declared.Entry.{Entry}
+use Rattle.paper.specs.declared.Stop.the-variants.{End}
+use Rattle.matching.proofs.Times.{Alike, same-size, same-matched, same-matched-count, same-unreceived-count}
+use Rattle.reading.proofs.Along.{along-back}
+use Rattle.demands.specs.Parts.{corrected, writtenTrace, written, time}
+use Rattle.demands.specs.Steps.{Chosen, reading, entries, Accepted, original}
+use Rattle.demands.specs.Demand3.{Allowed}
+use Rattle.demands.specs.Accepted.{Moved}
+use Rattle.demands.specs.Demand2.{SameButStamps, Again, Steady}
+use Rattle.demands.proofs.InOrder.{originals-range, originals-place}
+use Rattle.demands.proofs.Allowed.{sound-allowed, still}
+use Rattle.demands.proofs.Times.{one-choice, answer, size, listed-is, time-is}
+use Rattle.demands.proofs.Refusals.{accepted-exactly}
+use Rattle.demands.proofs.Accepted.{corrected-are, written-trace, written-length, matched-is, unreceived-is, passed-is, along-trace, rounds-are, accepted-answer}
+use Rattle.demands.proofs.Written.{clean-lines, same-but-stamps}
+use Rattle.demands.proofs.Rising.{Rises, rises, between}
+use Rattle.demands.proofs.Resettled.{there, written-settle}
+use Rattle.demands.proofs.Reread.{withTimes, times-alike, reread, rewritten}
+
+-- ---- the written trace, read and written again
+
+module _ (i : Inputs) (a : Accepted i) where
+  abbrev choice : Choice
+  choice = a .choice
+
+  abbrev es : List Entry
+  es = entries i (a .choice)
+
+  abbrev written-bytes : List ℕ
+  written-bytes = writtenFrom (a .choice) (linesOf (i .trace)) (a .times)
+
+  allowed : Allowed (i .latencies) es (timeAt (a .times))
+  allowed = sound-allowed (i .latencies) es (answer i a .least .sound)
+
+  rise : Rises (start .last) es (a .times)
+  rise =
+      let whole = a .matched .read .whole in
+      rises es (a .times) (size i a) (originals-place choice 2048 (i .trace) whole)
+      (λ k l. between (original es k) (timeAt (a .times) k) (originals-range choice 2048 (i .trace) whole k l) (allowed .above k l) (allowed .format k l))
+      (allowed .order)
+
+  read-again : (st : State) × (readOf choice 2048 written-bytes ≡ record { stop = End; entries = withTimes es (a .times); state = st })
+      × (st .passed ≡ reading i choice .state .passed)
+  read-again =
+      let (st, reads, passed) = reread (along-trace i a) (clean-lines (i .trace)) (a .times) start refl refl rise in
+      (st, along-back choice 2048 written-bytes reads, passed)
+
+  written-again : writtenFrom choice (linesOf written-bytes) (a .times) ≡ written-bytes
+  written-again = rewritten (along-trace i a) (clean-lines (i .trace)) (start .last) (a .times) rise
+
+-- ---- the call that reads it
+
+asked : (i : Inputs) → i .wanted ≡ true → (choice : Choice) (times : List ℤ) → bytes i choice times ≡ writtenFrom choice (linesOf (i .trace)) times
+unfolding bytes
+asked i e choice times = rw e
+
+-- "Writing the corrected trace changes timestamps only"
+pub stamps-only : (i : Inputs) (a : Accepted i) → i .wanted ≡ true → (choice : Choice) → Chosen i choice
+    → SameButStamps choice (linesOf (i .trace)) (corrected i) (linesOf (writtenTrace i))
+stamps-only i a wanted choice c =
+    rw (one-choice i choice (a .choice) c (a .matched .read .begun .chosen), corrected-are i a, written-trace i a, asked i wanted (a .choice) (a .times))
+    (same-but-stamps (along-trace i a) (clean-lines (i .trace)) (a .times) (size i a))
+
+module _ (i : Inputs) (a : Accepted i) (wanted : i .wanted ≡ true) (short : written i ≤ 65536) (j : Inputs) (g : Again i j) where
+  trace-is : j .trace ≡ written-bytes i a
+  trace-is = g .trace ∙ written-trace i a ∙ asked i wanted (a .choice) (a .times)
+
+  reading-is : reading j (a .choice) ≡ record { stop = End; entries = withTimes (es i a) (a .times); state = read-again i a .0 }
+  reading-is = ap (readOf (a .choice) 2048) trace-is ∙ read-again i a .1
+
+  entries-are : entries j (a .choice) ≡ withTimes (es i a) (a .times)
+  entries-are = ap (λ (r : Reading). r .entries) reading-is
+
+  alike-entries : Alike (entries j (a .choice)) (es i a)
+  alike-entries = rw entries-are (times-alike (es i a) (a .times))
+
+  bytes-again : j .wanted ≡ true → bytes j (a .choice) (a .times) ≡ writtenTrace i
+  bytes-again e =
+      asked j e (a .choice) (a .times) ∙ ap (λ (s : List ℕ). writtenFrom (a .choice) (linesOf s) (a .times)) trace-is ∙ written-again i a
+      ∙ sym trace-is ∙ g .trace
+
+  room-again : (b : Bool) → j .wanted ≡ b → length (bytes j (a .choice) (a .times)) ≤ length (j .room)
+  unfolding bytes
+  room-again true e = rw (bytes-again e, written-length i a) (g .room e)
+  room-again false e = rw e (omega arith)
+
+  accepted : Accepted j
+  accepted =
+      let m = a .matched in
+      record {
+        choice = a .choice;
+        rounds = 0;
+        times = a .times;
+        matched = record {
+          read = record {
+            begun = record {
+              chosen = rw (g .choice) (m .read .begun .chosen);
+              lengths = (rw (g .latencies) (m .read .begun .lengths .0), g .places);
+              low = rw (g .latencies) (m .read .begun .low);
+              short = rw (g .trace, written-length i a) short;
+            };
+            whole = ap (λ (r : Reading). r .stop) reading-is;
+          };
+          matches = same-matched (entries j (a .choice)) (es i a) alike-entries ∙ m .matches;
+        };
+        settles = rw (g .latencies, entries-are) (written-settle (i .latencies) (es i a) (a .times) (size i a) (allowed i a));
+        room = room-again _ refl;
+      }
+
+  still-times : ¬ Moved j (a .choice)
+  unfolding accepted
+  still-times (k, l, less) =
+      let inside : k < length (entries j (a .choice)) = rw (← listed-is j accepted) l in
+      let stays : original (entries j (a .choice)) k ≡ time j k =
+      rw (entries-are, time-is j accepted k inside) (there (i .latencies) (es i a) (a .times) (size i a) (allowed i a) k (rw (← entries-are) inside)) in
+      <ℤ-irrefl (rw stays at less)
+
+  pub steady : Steady i j
+  unfolding accepted
+  steady =
+      let fs = entries j (a .choice) in
+      let chosen = accepted .matched .read .begun .chosen in
+      let told = accepted-answer j accepted (a .choice) chosen in
+      let matches = matched-is j accepted ∙ same-matched-count fs (es i a) alike-entries ∙ sym (matched-is i a) in
+      record {
+        accepted = accepted-exactly j .1 accepted;
+        times = corrected-are j accepted ∙ sym (corrected-are i a);
+        no-round = rounds-are j accepted;
+        still = λ choice c. rw (one-choice j choice (a .choice) c chosen) still-times;
+        consistent = rw (← matches) (λ e. told .consistent .0 e .0, λ m. told .consistent .1 (m, still-times));
+        nothing = rw (← matches) (told .nothing);
+        lists = listed-is j accepted ∙ same-size fs (es i a) alike-entries ∙ sym (listed-is i a);
+        passes = passed-is j accepted ∙ ap (λ (r : Reading). r .state .passed) reading-is ∙ read-again i a .2 ∙ sym (passed-is i a);
+        matches = matches;
+        leaves = unreceived-is j accepted ∙ same-unreceived-count fs (es i a) alike-entries ∙ sym (unreceived-is i a);
+        bytes = λ e. written-trace j accepted ∙ bytes-again e;
+      }

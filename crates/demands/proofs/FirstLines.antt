@@ -1,0 +1,77 @@
+-- "Where the first lines of a trace are accepted and the whole is too .. the later lines change no time of the earlier ones."
+use Prim.Native.Nat.{ℕ, _<_}
+use native.Mathlib.Omega.{arith}
+use mathlib.Core.Path.{_≡_, sym, ap, _∙_}
+use mathlib.Core.List.{List, _++_}
+use lib.ListN.{length, length-append}
+use Rattle.paper.specs.Clock.{settled, settle}
+use Rattle.paper.specs.Reading.{Lines, State, Reading, readOf}
+use Rattle.paper.specs.Matching.{matchedOf, waitsOf}
+use Rattle.paper.specs.Answer.{Inputs}
+use Rattle.paper.specs.declared.Choice.{Choice}
+use Rattle.paper.specs.declared.Entry.{Entry}
+use Rattle.paper.specs.declared.Stop.the-variants.{End}
+use Rattle.matching.proofs.FirstLines.{waits-begin}
+use Rattle.reading.specs.Joined.{AllEnded, resumed}
+use Rattle.reading.proofs.Joined.{read-joined}
+use Rattle.reading.proofs.Along.{Reads, ends, passes, lists, along}
+use Rattle.rounds.specs.Compare.{First}
+use Rattle.rounds.proofs.Prefix.{first-times}
+use Rattle.demands.specs.Steps.{entries, waits, Accepted}
+use Rattle.demands.specs.Parts.{listed, time}
+use Rattle.demands.specs.Demand3.{followedBy}
+use Rattle.demands.proofs.Closed.{waits-closed}
+use Rattle.demands.proofs.Times.{one-choice, listed-is, time-is}
+
+-- ---- a trace that is read to its end has an LF behind each line
+
+all-ended : {choice : Choice} {most : ℕ} {x : Lines} {n : ℕ} {st st₁ : State} {es : List Entry} → Reads choice most x n st es st₁ → AllEnded x
+unfolding AllEnded
+all-ended ends = tt
+all-ended (passes p more) = all-ended more
+all-ended (lists p above room more) = all-ended more
+
+-- so bytes behind it only add records
+pub more-entries : (choice : Choice) (most : ℕ) (s more : List ℕ) → readOf choice most s .stop ≡ End
+    → (later : List Entry) × (readOf choice most (s ++ more) .entries ≡ readOf choice most s .entries ++ later)
+unfolding resumed
+more-entries choice most s more e =
+    let joined = read-joined choice most s more (all-ended (along choice most s e)) in
+    let whole = rw e at joined in
+    (_, ap (λ (r : Reading). r .entries) whole)
+
+-- ---- their waits, and so their times, stay
+
+waits-first : (table : List ℕ) (es later : List Entry) → matchedOf es ≡ End → First (waitsOf table es) (waitsOf table (es ++ later))
+waits-first table es later e =
+    let b = waits-begin es later table e in
+    record {
+      size = b .size;
+      original = λ k l. sym (b .original k l);
+      before = λ k l. sym (b .before k l);
+      gap = λ k l. sym (b .gap k l);
+      send = λ k l. sym (b .send k l);
+      latency = λ k l. sym (b .latency k l);
+    }
+
+module _ (i : Inputs) (more : List ℕ) (a : Accepted i) (b : Accepted (followedBy more i)) where
+  whole-choice : b .choice ≡ a .choice
+  whole-choice = one-choice i (b .choice) (a .choice) (b .matched .read .begun .chosen) (a .matched .read .begun .chosen)
+
+  whole-entries : (later : List Entry) × (entries (followedBy more i) (b .choice) ≡ entries i (a .choice) ++ later)
+  whole-entries =
+      let (later, e) = more-entries (a .choice) 2048 (i .trace) more (a .matched .read .whole) in
+      (later, rw whole-choice e)
+
+  pub times-stay : (k : ℕ) → k < listed i → time i k ≡ time (followedBy more i) k
+  unfolding waitsOf
+  times-stay k l =
+      let es = entries i (a .choice) in
+      let (later, e) = whole-entries in
+      let inside : k < length es = rw (← listed-is i a) l in
+      let inside-whole : k < length (entries (followedBy more i) (b .choice)) = rw (e, length-append es later) (omega arith) in
+      let settles-whole : settle (waitsOf (i .latencies) (es ++ later)) ≡ settled (b .rounds) (b .times) = rw (← e) (b .settles) in
+      time-is i a k inside
+      ∙ first-times (waits i (a .choice)) (waitsOf (i .latencies) (es ++ later)) (waits-first (i .latencies) es later (a .matched .matches))
+      (waits-closed (i .latencies) es) (waits-closed (i .latencies) (es ++ later)) settles-whole (a .settles) k inside
+      ∙ sym (time-is (followedBy more i) b k inside-whole)

@@ -1,0 +1,111 @@
+-- Demand 2: "Records, sends and receives are read as the PICL report and our rules define, and each receive is matched to one send of
+-- its own. Writing the corrected trace changes timestamps only; reading it again under that table and choice, if it is within the size
+-- limit, gives those times and moves none."
+use Prim.Native.Nat.{ℕ, _≤_, _<_}
+use mathlib.Core.Path.{_≡_}
+use mathlib.Core.Logic.{_↔_}
+use mathlib.Core.Bool.{true}
+use mathlib.Core.Option.{some}
+use mathlib.Core.List.{List, [], _∷_, _++_}
+use lib.ListN.{length, take}
+use lib.IntN.{ℤ}
+use Rattle.paper.specs.Forms.{timeShown}
+use Rattle.paper.specs.Line.{lineOf}
+use Rattle.paper.specs.Reading.{Lines, done, ended, linesOf}
+use Rattle.paper.specs.Matching.{Key, countIf, isSendOf, isReceiveOf, sendOf}
+use Rattle.paper.specs.Answer.{Inputs}
+use Rattle.paper.specs.declared.Choice.{Choice}
+use Rattle.paper.specs.declared.Entry.{Entry}
+use Rattle.paper.specs.declared.Line.the-variants.{Passed, Listed}
+use Rattle.paper.specs.declared.Message.{Message}
+use Rattle.paper.specs.declared.Record.{Record}
+use Rattle.paper.specs.declared.Role.the-variants.{Send, Receive}
+use Rattle.form.specs.Free.{Free}
+use Rattle.demands.specs.Parts.{number, verdict, listed, passed, matched, unreceived, rounds, written, corrected, writtenTrace}
+use Rattle.demands.specs.Steps.{Chosen, entries, processor, role, Matched}
+use Rattle.demands.specs.Accepted.{Moved, AcceptedAnswer}
+
+-- ---- each receive and its send
+
+-- "from p to q with type t", of a message that record j sent and record k received
+abbrev pub keyOf : List Entry → ℕ → ℕ → Message → Key
+keyOf es j k m = record { sender = processor es j; receiver = processor es k; tag = m .tag }
+
+-- record k received what record j sent: "The k-th receive at processor q from p with type t belongs to the k-th send from p to q with
+-- type t, both counted in file order"
+pub record Belongs (es : List Entry) (k j : ℕ) : Type 0 where
+  pub within : j < length es
+  pub received : Message
+  pub sent : Message
+  pub receives : role es k ≡ Receive received
+  pub sends : role es j ≡ Send sent
+  pub from : received .peer ≡ processor es j
+  pub to : sent .peer ≡ processor es k
+  pub tag : received .tag ≡ sent .tag
+  pub length : received .length ≡ sent .length
+  pub counted : countIf (isReceiveOf (keyOf es j k sent)) (take k es) ≡ countIf (isSendOf (keyOf es j k sent)) (take j es)
+
+-- "each receive is matched to one send"
+pub record Sent (es : List Entry) (k : ℕ) : Type 0 where
+  pub send : ℕ
+  pub is : sendOf es k ≡ some send
+  pub belongs : Belongs es k send
+
+-- ---- the written trace
+
+-- line m is line l with another third field
+pub record Restamped (stamp l m : List ℕ) : Type 0 where
+  pub first : List ℕ
+  pub second : List ℕ
+  pub third : List ℕ
+  pub rest : List ℕ
+  pub was : l ≡ first ++ (32 ∷ second ++ (32 ∷ third ++ (32 ∷ rest)))
+  pub is : m ≡ first ++ (32 ∷ second ++ (32 ∷ stamp ++ (32 ∷ rest)))
+  pub fields : Free 32 first × Free 32 second × Free 32 third × Free 32 stamp
+
+-- the same lines but for the timestamps of the listed ones, which are these times in the file's order
+pub data SameButStamps (choice : Choice) : Lines → List ℤ → Lines → Type 0 where
+  end : SameButStamps choice done [] done
+  passed-over : {l : List ℕ} {x y : Lines} {times : List ℤ} → lineOf choice l ≡ Passed → SameButStamps choice x times y
+      → SameButStamps choice (ended l x) times (ended l y)
+  stamped : {l m : List ℕ} {r : Record} {x y : Lines} {t : ℤ} {times : List ℤ} → lineOf choice l ≡ Listed r → Restamped (timeShown t) l m
+      → SameButStamps choice x times y → SameButStamps choice (ended l x) (t ∷ times) (ended m y)
+
+-- ---- reading it again
+
+-- j reads what i wrote, "under that table and choice"
+pub record Again (i j : Inputs) : Type 0 where
+  pub trace : j .trace ≡ writtenTrace i
+  pub latencies : j .latencies ≡ i .latencies
+  pub choice : j .choice ≡ i .choice
+  pub places : length (j .times) ≡ 2048
+  pub room : j .wanted ≡ true → written i ≤ length (j .room)
+
+-- "gives those times and moves none": the same counts, but 0 rounds; the same bytes, where they are asked for
+pub record Steady (i j : Inputs) : Type 0 where
+  pub accepted : number j ≡ 0
+  pub times : corrected j ≡ corrected i
+  pub no-round : rounds j ≡ 0
+  pub still : (choice : Choice) → Chosen j choice → ¬ Moved j choice
+  pub consistent : (verdict j ≡ 1) ↔ (¬ (matched i ≡ 0))
+  pub nothing : (verdict j ≡ 3) ↔ (matched i ≡ 0)
+  pub lists : listed j ≡ listed i
+  pub passes : passed j ≡ passed i
+  pub matches : matched j ≡ matched i
+  pub leaves : unreceived j ≡ unreceived i
+  pub bytes : j .wanted ≡ true → writtenTrace j ≡ writtenTrace i
+
+pub record Demand2 : Type 0 where
+  -- "Records, sends and receives are read as the PICL report and our rules define": the counts are those of `readOf`'s records
+  pub read : (i : Inputs) (choice : Choice) → Chosen i choice → number i ≡ 0 → AcceptedAnswer i choice
+  -- "each receive is matched to one send"
+  pub send : (i : Inputs) (choice : Choice) → Matched i choice → (k : ℕ) → k < length (entries i choice)
+      → (m : Message) → role (entries i choice) k ≡ Receive m → Sent (entries i choice) k
+  -- "of its own"
+  pub own : (i : Inputs) (choice : Choice) → (j k l : ℕ) → k < length (entries i choice) → l < length (entries i choice)
+      → sendOf (entries i choice) k ≡ some j → sendOf (entries i choice) l ≡ some j → k ≡ l
+  -- "Writing the corrected trace changes timestamps only"
+  pub stamps : (i : Inputs) (choice : Choice) → Chosen i choice → number i ≡ 0 → i .wanted ≡ true
+      → SameButStamps choice (linesOf (i .trace)) (corrected i) (linesOf (writtenTrace i))
+  -- "reading it again .., if it is within the size limit, gives those times and moves none"
+  pub again : (i : Inputs) → number i ≡ 0 → i .wanted ≡ true → written i ≤ 65536 → (j : Inputs) → Again i j → Steady i j

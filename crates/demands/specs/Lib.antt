@@ -1,0 +1,9 @@
+-- The demands, one file to each, in their order. The files before them have the words in which they are said.
+pub mod Parts
+pub mod Steps
+pub mod Table
+pub mod Records
+pub mod Accepted
+pub mod Demand1
+pub mod Demand2
+pub mod Demand3

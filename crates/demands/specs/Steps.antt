@@ -1,0 +1,81 @@
+-- How far a call comes: the checks that it passes, in document 01's order.
+use Prim.Native.Nat.{ℕ, _≤_, _<_}
+use mathlib.Core.Path.{_≡_}
+use mathlib.Core.Option.{some}
+use mathlib.Core.List.{List}
+use lib.ListN.{length, getD}
+use lib.IntN.{ℤ}
+use Rattle.paper.specs.Reading.{Reading, readOf}
+use Rattle.paper.specs.Matching.{entryAt, matchedOf, waitsOf}
+use Rattle.paper.specs.Clock.{Waits, settle, settled}
+use Rattle.paper.specs.Answer.{Inputs, choiceOf, written}
+use Rattle.paper.specs.declared.Choice.{Choice}
+use Rattle.paper.specs.declared.Entry.{Entry}
+use Rattle.paper.specs.declared.Role.{Role}
+use Rattle.paper.specs.declared.Stop.the-variants.{End}
+
+-- ---- "1 to 4", each where it passes
+
+abbrev pub Chosen : Inputs → Choice → Type 0
+Chosen i choice = choiceOf (i .choice) ≡ some choice
+
+abbrev pub RightLengths : Inputs → Type 0
+RightLengths i = (length (i .latencies) ≡ 4096) × (length (i .times) ≡ 2048)
+
+abbrev pub LowLatencies : Inputs → Type 0
+LowLatencies i = (k : ℕ) → k < length (i .latencies) → getD (i .latencies) k 0 ≤ 1000000
+
+abbrev pub ShortTrace : Inputs → Type 0
+ShortTrace i = length (i .trace) ≤ 65536
+
+pub record Begun (i : Inputs) (choice : Choice) : Type 0 where
+  pub chosen : Chosen i choice
+  pub lengths : RightLengths i
+  pub low : LowLatencies i
+  pub short : ShortTrace i
+
+-- ---- "then line by line"
+
+abbrev pub reading : Inputs → Choice → Reading
+reading i choice = readOf choice 2048 (i .trace)
+
+-- the listed records in file order
+abbrev pub entries : Inputs → Choice → List Entry
+entries i choice = reading i choice .entries
+
+-- of the record at place k, k counted from 0
+abbrev pub original : List Entry → ℕ → ℤ
+original es k = entryAt es k .body .time
+
+abbrev pub processor : List Entry → ℕ → ℕ
+processor es k = entryAt es k .body .processor
+
+abbrev pub role : List Entry → ℕ → Role
+role es k = entryAt es k .body .role
+
+-- no line is refused
+pub record Read (i : Inputs) (choice : Choice) : Type 0 where
+  pub begun : Begun i choice
+  pub whole : reading i choice .stop ≡ End
+
+-- ---- "then the first receive .. that calls for 13 or 14"
+
+-- no receive does
+pub record Matched (i : Inputs) (choice : Choice) : Type 0 where
+  pub read : Read i choice
+  pub matches : matchedOf (entries i choice) ≡ End
+
+-- ---- "then 15; then 16"
+
+-- what the records wait for
+abbrev pub waits : Inputs → Choice → Waits
+waits i choice = waitsOf (i .latencies) (entries i choice)
+
+-- the times, and room for the written trace where it is asked for
+pub record Accepted (i : Inputs) : Type 0 where
+  pub choice : Choice
+  pub rounds : ℕ
+  pub times : List ℤ
+  pub matched : Matched i choice
+  pub settles : settle (waits i choice) ≡ settled rounds times
+  pub room : length (written i choice times) ≤ length (i .room)

@@ -1,0 +1,6 @@
+pub mod Answers
+pub mod Checking
+pub mod Reading
+pub mod Settling
+pub mod Copying
+pub mod Finishing

@@ -1,0 +1,77 @@
+-- The answers, and what the functions below the call have in hand.
+use Prim.Native.Nat.{ℕ, _/_, _≤_}
+use mathlib.Core.Path.{_≡_}
+use mathlib.Core.List.{List}
+use mathlib.Core.Bool.{Bool}
+use lib.ListN.{length}
+use lib.IntN.{ℤ}
+use lib.Dec.{ltb}
+use Rattle.paper.specs.Numbers.{numberOf}
+use Rattle.paper.specs.Answer.{Inputs, verdictOf}
+use Rattle.paper.specs.Reading.{readOf}
+use Rattle.paper.specs.Matching.{waitsOf, matchedCount, unreceivedCount}
+use Rattle.paper.specs.Clock.{settle, settled}
+use Rattle.paper.specs.declared.Choice.{Choice}
+use Rattle.paper.specs.declared.Choice.the-variants.{Strict, Lenient}
+use Rattle.paper.specs.declared.Fault.{Fault}
+use Rattle.paper.specs.declared.Answer.{Answer}
+use Rattle.paper.specs.declared.Stop.the-variants.{End}
+use Rattle.store.specs.Layout.{entriesIn}
+use Rattle.judge.specs.declared.answer.Counts.{Counts}
+
+unfoldable pub refusal : Fault → ℕ → Answer
+refusal fault line =
+    record {
+      number = numberOf fault;
+      line = line;
+      verdict = 0;
+      listed = 0;
+      passed = 0;
+      matched = 0;
+      unreceived = 0;
+      rounds = 0;
+      written = 0;
+    }
+
+unfoldable pub verdictBy : ℕ → ℕ → ℕ
+verdictBy matched rounds = verdictOf matched (ltb 0 rounds)
+
+unfoldable pub acceptance : Counts → ℕ → Answer
+acceptance c written =
+    record {
+      number = 0;
+      line = 0;
+      verdict = verdictBy (c .matched) (c .rounds);
+      listed = c .listed;
+      passed = c .passed;
+      matched = c .matched;
+      unreceived = c .unreceived;
+      rounds = c .rounds;
+      written = written;
+    }
+
+-- the number that a caller names a choice by
+unfoldable pub chosen : Choice → ℕ
+chosen Strict = 1
+chosen Lenient = 2
+
+abbrev pub given : Choice → (trace latencies : List ℕ) → List ℤ → Bool → List ℕ → Inputs
+given choice trace latencies times wanted room =
+    record { trace = trace; latencies = latencies; choice = chosen choice; times = times; wanted = wanted; room = room }
+
+-- a trace that was read to its end, its records in the store
+pub record Held (choice : Choice) (trace : List ℕ) (store : List ℤ) (listed passed : ℕ) : Type 0 where
+  pub stop : readOf choice 2048 trace .stop ≡ End
+  pub entries : entriesIn store listed ≡ readOf choice 2048 trace .entries
+  pub many : length (readOf choice 2048 trace .entries) ≡ listed
+  pub over : readOf choice 2048 trace .state .passed ≡ passed
+  pub few : listed ≤ 2048
+  pub room : listed ≤ length store / 7
+
+-- the times found, with what was counted
+pub record Found (choice : Choice) (trace latencies : List ℕ) (store new : List ℤ) (counts : Counts) : Type 0 where
+  pub held : Held choice trace store (counts .listed) (counts .passed)
+  pub times : settle (waitsOf latencies (readOf choice 2048 trace .entries)) ≡ settled (counts .rounds) new
+  pub all : length new ≡ counts .listed
+  pub matched : matchedCount (readOf choice 2048 trace .entries) ≡ counts .matched
+  pub unreceived : unreceivedCount (readOf choice 2048 trace .entries) ≡ counts .unreceived
