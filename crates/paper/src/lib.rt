@@ -105,7 +105,8 @@ pub enum Stop {
     At(Fault, usize),
 }
 
-// What the caller gets back, in the order of the report.
+// What the caller gets back, laid out as C has it.
+#[repr(C)]
 pub struct Answer {
     pub number: u64,
     pub line: u64,

@@ -1,0 +1,8 @@
+// Whole files, in and out. What the system does with a name and with bytes no contract can say: these functions are proved safe,
+// to end, and to count within what they are lent.
+mod read;
+mod write;
+
+pub use read::Loaded;
+pub use read::load;
+pub use write::store;

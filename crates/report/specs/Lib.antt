@@ -1,0 +1,3 @@
+-- What the report is.
+pub mod Put
+pub mod Report

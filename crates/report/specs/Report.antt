@@ -1,0 +1,53 @@
+-- Document 01, "The program's whole report, header and all" and "The other reports are ..". Every line ends with LF.
+use Prim.Native.Nat.{ℕ}
+use Prim.Native.Char.{code}
+use Prim.Native.String.{String}
+use Prim.Native.String as String
+use mathlib.Core.List.{List, [], _∷_, _++_}
+use mathlib.Core.Bool.{cond}
+use lib.Dec.{eqb}
+use Rattle.io.specs.Counts.{Counts}
+use Rattle.io.specs.Digits.{digits}
+use Rattle.paper.specs.Forms.{placesFrom}
+use Rattle.paper.specs.declared.Answer.{Answer}
+use Rattle.report.specs.Put.{Put}
+
+unfoldable pub bytesOf : String → List ℕ
+bytesOf String.[] = []
+bytesOf (String._∷_ c s) = code c ∷ bytesOf s
+
+-- a number in as many digits as it has, at most twenty
+unfoldable pub shown : ℕ → List ℕ
+shown n = digits 10 (placesFrom 19 n) n
+
+-- a word and a number, to the end of the line
+unfoldable pub numbered : List ℕ → ℕ → List ℕ
+numbered word n = word ++ (shown n ++ bytesOf "\n")
+
+unfoldable pub verdictShown : ℕ → List ℕ
+verdictShown verdict =
+    cond (eqb verdict 1)
+    (bytesOf "verdict consistent\n")
+    (cond (eqb verdict 2) (bytesOf "verdict corrected\n") (bytesOf "verdict nothing to judge\n"))
+
+unfoldable pub acceptedShown : Answer → List ℕ
+acceptedShown a =
+    verdictShown (a .verdict)
+    ++ (numbered (bytesOf "listed ") (a .listed)
+    ++ (numbered (bytesOf "passed ") (a .passed)
+    ++ (numbered (bytesOf "matched ") (a .matched)
+    ++ (numbered (bytesOf "unreceived ") (a .unreceived)
+    ++ numbered (bytesOf "rounds ") (a .rounds)))))
+
+-- "for a refusal one line, as "refused 7 line 25""
+unfoldable pub refusedShown : ℕ → ℕ → List ℕ
+refusedShown number line = bytesOf "refused " ++ (shown number ++ numbered (bytesOf " line ") line)
+
+unfoldable pub reportOf : Answer → List ℕ
+reportOf a = cond (eqb (a .number) 0) (acceptedShown a) (refusedShown (a .number) (a .line))
+
+-- ---- the statement of `report`: the report at the room's start, the rest as it was. That its length counts within the room
+-- follows from this, and is said for those who lend that part.
+pub record Reported (answer : Answer) (room : List ℕ) (length : ℕ) (after : List ℕ) : Type 0 where
+  pub put : Put room 0 (reportOf answer) length after
+  pub counts : Counts length after

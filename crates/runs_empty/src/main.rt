@@ -1,0 +1,4 @@
+// The program with an empty choice.
+fn main() {
+    shell::run();
+}

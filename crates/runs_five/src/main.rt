@@ -1,0 +1,4 @@
+// The program with one argument too many.
+fn main() {
+    shell::run();
+}

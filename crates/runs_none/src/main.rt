@@ -1,0 +1,4 @@
+// The program with no argument.
+fn main() {
+    shell::run();
+}

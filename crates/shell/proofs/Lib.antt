@@ -1,0 +1,2 @@
+-- What the program leans on in the judgement.
+pub mod Room

@@ -1,0 +1,3 @@
+-- The laws of table files.
+pub mod Turns
+pub mod Outcome

@@ -1,0 +1,2 @@
+-- What a table file means.
+pub mod Table

@@ -1,0 +1,107 @@
+/* Cantuvesh: a proved reader and corrector of PICL event traces, as a static library.
+ *
+ * Made by `rt staticlib ffi` as target/staticlib/libffi.a, for x86-64; link it after the objects
+ * that call it. It needs no set-up, keeps nothing between calls, allocates nothing and may be
+ * called from several threads at once, each with times and room of its own.
+ */
+#ifndef CANTUVESH_H
+#define CANTUVESH_H
+
+#include <stdbool.h>
+#include <stddef.h>
+#include <stdint.h>
+
+#ifdef __cplusplus
+extern "C" {
+#endif
+
+/* The sizes of a call. */
+#define CANTUVESH_TRACE_LIMIT 65536     /* the most bytes that a trace may have */
+#define CANTUVESH_PROCESSORS 64         /* processors are 0 to 63 */
+#define CANTUVESH_LATENCIES 4096        /* the exact number of lent latencies */
+#define CANTUVESH_LATENCY_LIMIT 1000000 /* the highest latency, in microseconds */
+#define CANTUVESH_TIMES 2048            /* the exact number of lent times; the most listed records */
+
+/* What `choice` may be. */
+#define CANTUVESH_STRICT 1  /* an unlisted line is refused */
+#define CANTUVESH_LENIENT 2 /* an unlisted line is passed over */
+
+/* What `verdict` may be in an accepted answer; 0 in a refusal. */
+#define CANTUVESH_CONSISTENT 1       /* messages matched, and no time had to move */
+#define CANTUVESH_CORRECTED 2        /* messages matched, and some time moved */
+#define CANTUVESH_NOTHING_TO_JUDGE 3 /* no message matched */
+
+/* The answer. A refusal has its number and line, and 0 in all the rest. */
+struct cantuvesh_answer {
+    uint64_t number;     /* 0 accepted, else the refusal below */
+    uint64_t line;       /* the refused line, counted from 1; 0 where no line is meant */
+    uint64_t verdict;    /* one of the three above */
+    uint64_t listed;     /* listed records: so many of the lent times are written */
+    uint64_t passed;     /* lines passed over */
+    uint64_t matched;    /* messages, each a receive with its send */
+    uint64_t unreceived; /* sends that no receive belongs to */
+    uint64_t rounds;     /* the first round of corrections that the next one repeats */
+    uint64_t written;    /* bytes of the written trace; 0 if it was not wanted */
+};
+
+/* Refusals, the first that holds in this order: 1 to 4; then 5 to 12 line by line, the first bad
+ * line deciding; then the first receive in file order that calls for 13 or 14; then 15; then 16.
+ *
+ *    1  choice is neither 1 nor 2
+ *    2  the latencies are not 4,096, or the times not 2,048
+ *    3  a latency above 1,000,000, whether a message uses it or not
+ *    4  a trace above 65,536 bytes
+ *    5  the form of a line, or of a field other than the timestamp
+ *    6  the form of the timestamp
+ *    7  an unlisted record type or event type, under strict
+ *    8  a message event that is not handled, under either choice
+ *    9  a listed record whose processor is outside 0 to 63, or whose process is not 0
+ *   10  a send or a receive without its three good data
+ *   11  a time below the last listed one of its processor
+ *   12  listed record number 2,049
+ *   13  a receive without a matching send
+ *   14  a receive whose length differs from its send's
+ *   15  no times satisfy the clock condition within the limits of a time
+ *   16  the written trace is longer than the room; only where it was wanted
+ */
+
+/* Judges one trace.
+ *
+ * trace, trace_len
+ *     The bytes of the trace, each line ended by LF, the last one too. Any bytes may be lent, and any
+ *     number of them: what is no good trace is refused.
+ * latencies, latencies_len
+ *     The least time that a message takes, in microseconds: the entry at 64 * sender + receiver.
+ * choice
+ *     CANTUVESH_STRICT or CANTUVESH_LENIENT.
+ * times, times_len
+ *     Where an accepted trace's corrected times go, in microseconds and in file order of the listed
+ *     records: times[0] to times[listed - 1]. All later places are left as they were, and every
+ *     place if the trace is refused.
+ * wanted
+ *     Whether the written trace is wanted: the trace's bytes with the timestamp of each listed record
+ *     replaced by its corrected time. Pass true or false, no other bits.
+ * room, room_len
+ *     Where the written trace goes, at its start: room[0] to room[written - 1]. It may be shorter
+ *     than the trace, or longer by at most 8 bytes for each listed record, so 81,920 bytes are always
+ *     enough. All later places are left as they were, and every place if the trace is refused or the
+ *     written one is not wanted.
+ *
+ * No length is asked of the caller beyond what it says: a wrong one is refused (2, 4, 16). But every
+ * pointer must be one to so many places as its length says, and not NULL even where that is 0;
+ * latencies and times must be aligned as their types are, bytes may stand anywhere; and times and
+ * room may overlap neither each other nor trace and latencies.
+ */
+struct cantuvesh_answer cantuvesh_judge(
+    const uint8_t *trace, size_t trace_len,
+    const uint32_t *latencies, size_t latencies_len,
+    uint32_t choice,
+    int64_t *times, size_t times_len,
+    bool wanted,
+    uint8_t *room, size_t room_len);
+
+#ifdef __cplusplus
+}
+#endif
+
+#endif

@@ -1,0 +1,42 @@
+//! The rest of a call: how much room, and what a careless caller hands over.
+
+use super::Case;
+use super::random::Random;
+use crate::{LATENCIES, MAX_BYTES, MAX_LATENCY, MAX_RECORDS};
+
+/// Room of a length that tells: just enough, one byte short, none, or more than is needed. A trace
+/// that is refused anyway has some room, too, to be left alone.
+pub fn room(case: &Case, random: &mut Random) -> usize {
+    let answer = case.unhindered();
+    let needed = if answer.number == 0 { answer.written as usize } else { case.trace.len().min(200) };
+    match random.below(20) {
+        0..9 => needed,
+        9..12 => needed.saturating_sub(1),
+        12 => 0,
+        13 => random.place(needed + 1),
+        14 => case.trace.len(),
+        15 => MAX_BYTES,
+        _ => needed + random.place(100),
+    }
+}
+
+/// Now and then a wrong choice, a slice of the wrong length, a latency above the limit, or several
+/// of them at once.
+pub fn spoil(case: &mut Case, random: &mut Random) {
+    let often = if random.chance(10) { 20 } else { 1 };
+    if random.chance(often) {
+        case.choice = random.pick(&[0, 3, 4, u32::MAX, 1 << 16, 257, 0x8000_0001, 0x8000_0002]);
+    }
+    if random.chance(often) {
+        let length = random.pick(&[0, 1, LATENCIES - 1, LATENCIES + 1, 2 * LATENCIES, MAX_RECORDS]);
+        case.latencies.resize(length, 0);
+    }
+    if random.chance(often) {
+        case.times = random.pick(&[0, 1, MAX_RECORDS - 1, MAX_RECORDS + 1, 2 * MAX_RECORDS, LATENCIES]);
+    }
+    if random.chance(often) && !case.latencies.is_empty() {
+        let any = random.place(case.latencies.len());
+        let place = random.pick(&[0, any, case.latencies.len() - 1]);
+        case.latencies[place] = random.pick(&[MAX_LATENCY, MAX_LATENCY + 1, u32::MAX, 1 << 31]);
+    }
+}

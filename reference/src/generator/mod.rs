@@ -1,0 +1,110 @@
+//! Traces, tables and calls from a seed: the same seed gives the same case for ever.
+//!
+//! [`run`] makes sound runs and looks at them through wrong clocks, [`shape`] makes chains, rings
+//! and what else has a known shape, [`damage`] spoils them, [`near`] and [`soup`] put lines together
+//! from good and bad parts, [`limit`] goes to the ends of every size and number, and [`call`] is the
+//! rest of a call.
+
+mod call;
+mod damage;
+mod limit;
+mod near;
+pub mod random;
+pub mod record;
+mod run;
+pub mod shape;
+mod soup;
+pub mod workload;
+
+use crate::{Answer, LATENCIES, MAX_LATENCY, MAX_RECORDS, judge};
+use random::Random;
+
+/// One call, with the lengths of what is lent and how far each lent slice stands off its buffer's
+/// first place.
+#[derive(Clone, Debug, PartialEq, Eq)]
+pub struct Case {
+    pub seed: u64,
+    /// Which kind of trace it is.
+    pub kind: &'static str,
+    pub trace: Vec<u8>,
+    pub latencies: Vec<u32>,
+    pub choice: u32,
+    pub times: usize,
+    pub wanted: bool,
+    pub room: usize,
+    pub offset: usize,
+}
+
+/// A trace and its table, before the rest of the call is chosen.
+struct Draft {
+    kind: &'static str,
+    trace: Vec<u8>,
+    latencies: Vec<u32>,
+}
+
+impl Case {
+    pub fn from_seed(seed: u64) -> Case {
+        let mut random = Random::new(seed);
+        let Draft { kind, trace, latencies } = draft(&mut random);
+        let choice = if random.chance(35) { 1 } else { 2 };
+        let mut case = Case {
+            seed,
+            kind,
+            trace,
+            latencies,
+            choice,
+            times: MAX_RECORDS,
+            wanted: random.chance(50),
+            room: 0,
+            offset: random.below(16) as usize,
+        };
+        case.room = call::room(&case, &mut random);
+        call::spoil(&mut case, &mut random);
+        case
+    }
+
+    /// The reference's answer if there were room for everything.
+    fn unhindered(&self) -> Answer {
+        let mut room = vec![0; self.trace.len() + 16 * MAX_RECORDS];
+        let mut times = vec![0; self.times];
+        judge(&self.trace, &self.latencies, self.choice, &mut times, true, &mut room)
+    }
+}
+
+fn draft(random: &mut Random) -> Draft {
+    match random.below(1000) {
+        0..290 => run::skewed(random),
+        290..320 => run::at_the_end_of_time(random),
+        320..340 => limit::times(random),
+        340..370 => shape::any_chain(random),
+        370..440 => shape::any_ring(random),
+        440..550 => damage::in_messages(random),
+        550..670 => damage::in_text(random),
+        670..770 => near::lines(random),
+        770..980 => soup::lines(random),
+        980..988 => limit::records(random),
+        988..996 => limit::bytes(random),
+        _ => soup::noise(random),
+    }
+}
+
+/// A table with one latency everywhere.
+pub fn flat_table(latency: u32) -> Vec<u32> {
+    vec![latency; LATENCIES]
+}
+
+/// Any good table: often flat, often zero, sometimes at the limit.
+fn table(random: &mut Random) -> Vec<u32> {
+    let highest = match random.below(6) {
+        0 | 1 => return flat_table(0),
+        2 => return flat_table(random.below(20) as u32),
+        3 => 10,
+        4 => 5_000,
+        _ => MAX_LATENCY,
+    };
+    let mut table: Vec<u32> = (0..LATENCIES).map(|_| random.up_to(highest)).collect();
+    if random.chance(20) {
+        table[random.below(LATENCIES as u64) as usize] = MAX_LATENCY;
+    }
+    table
+}

@@ -1,0 +1,160 @@
+//! A record before it is text, so that runs and damages can speak of what it means.
+
+use super::random::Random;
+use crate::MAX_TIME;
+use crate::form::write_time;
+
+#[derive(Clone, Debug)]
+pub struct Record {
+    pub record_type: i64,
+    pub event: i64,
+    pub time: i64,
+    pub processor: i64,
+    pub process: i64,
+    pub data: Data,
+}
+
+#[derive(Clone, Debug)]
+pub enum Data {
+    None,
+    Wholes(Vec<i64>),
+    Times(Vec<i64>),
+    /// The whole end of an unlisted line: a data count and the bytes after it.
+    Free(i64, Vec<u8>),
+}
+
+impl Record {
+    pub fn local(record_type: i64, event: i64, time: i64, processor: i64) -> Record {
+        Record { record_type, event, time, processor, process: 0, data: Data::None }
+    }
+
+    pub fn send(time: i64, processor: i64, length: i64, kind: i64, to: i64) -> Record {
+        let data = Data::Wholes(vec![length, kind, to]);
+        Record { data, ..Record::local(-3, -21, time, processor) }
+    }
+
+    pub fn receive(event: i64, time: i64, processor: i64, length: i64, kind: i64, from: i64) -> Record {
+        let data = Data::Wholes(vec![length, kind, from]);
+        Record { data, ..Record::local(-4, event, time, processor) }
+    }
+
+    pub fn is_send(&self) -> bool {
+        (self.record_type, self.event) == (-3, -21)
+    }
+
+    pub fn is_receive(&self) -> bool {
+        self.record_type == -4 && matches!(self.event, -51 | -52)
+    }
+
+    /// The record's line without its LF.
+    pub fn text(&self) -> Vec<u8> {
+        let mut text = format!("{} {} ", self.record_type, self.event).into_bytes();
+        write_time(self.time, &mut text);
+        text.extend(format!(" {} {} ", self.processor, self.process).bytes());
+        match &self.data {
+            Data::None => text.push(b'0'),
+            Data::Wholes(values) => {
+                text.extend(format!("{} 2", values.len()).bytes());
+                for value in values {
+                    text.extend(format!(" {value}").bytes());
+                }
+            }
+            Data::Times(values) => {
+                text.extend(format!("{} 5", values.len()).bytes());
+                for &value in values {
+                    text.push(b' ');
+                    write_time(value, &mut text);
+                }
+            }
+            Data::Free(count, end) => {
+                text.extend(count.to_string().bytes());
+                text.extend(end);
+            }
+        }
+        text
+    }
+}
+
+/// Lines put together, each with its LF.
+pub fn joined(lines: &[Vec<u8>]) -> Vec<u8> {
+    let mut trace = Vec::new();
+    for line in lines {
+        trace.extend(line);
+        trace.push(b'\n');
+    }
+    trace
+}
+
+pub fn trace_of(records: &[Record]) -> Vec<u8> {
+    let lines: Vec<Vec<u8>> = records.iter().map(Record::text).collect();
+    joined(&lines)
+}
+
+/// A record of one of the listed events that is no message.
+pub fn any_local(random: &mut Random, time: i64, processor: i64) -> Record {
+    const EVENTS: [i64; 34] = [
+        0, 1, 7, 50, 123_456, 999_999_999, -11, -12, -21, -51, -52, -201, -202, -221, -251, -401, -402, -501,
+        -502, -503, -601, -602, -603, -901, -902, -903, -904, -911, -912, -913, -914, 0, 1, 2,
+    ];
+    let event = random.pick(&EVENTS);
+    let record_type = match event {
+        -21 => random.pick(&[-2, -4, 0]),
+        -51 | -52 => random.pick(&[-2, -3, 0]),
+        _ => random.pick(&[-2, -3, -4, 0]),
+    };
+    Record { data: any_data(random), ..Record::local(record_type, event, time, processor) }
+}
+
+fn any_data(random: &mut Random) -> Data {
+    let count = match random.below(10) {
+        0..6 => return Data::None,
+        6..9 => random.between(1, 4),
+        _ => random.between(1, 16),
+    };
+    if random.chance(60) {
+        Data::Wholes((0..count).map(|_| any_whole(random)).collect())
+    } else {
+        Data::Times((0..count).map(|_| any_time(random)).collect())
+    }
+}
+
+fn any_whole(random: &mut Random) -> i64 {
+    match random.below(4) {
+        0 => random.between(-3, 3),
+        1 => random.pick(&[999_999_999, -999_999_999, 0, -1, 10, 100]),
+        _ => random.between(-999_999_999, 999_999_999),
+    }
+}
+
+pub fn any_time(random: &mut Random) -> i64 {
+    match random.below(5) {
+        0 => random.between(-3, 3),
+        1 => random.pick(&[MAX_TIME, -MAX_TIME, 0, -1, 1, 999_999, 1_000_000, -1_000_000]),
+        2 => random.between(-5_000_000, 5_000_000),
+        _ => random.between(-MAX_TIME, MAX_TIME),
+    }
+}
+
+/// A line that lenient reading passes over: an unlisted record type, or an unlisted event.
+pub fn any_unlisted(random: &mut Random) -> Record {
+    let time = any_time(random);
+    let processor = random.pick(&[0, 1, 5, 63, 64, -1, 32_767, 999_999_999, -999_999_999]);
+    let mut record = if random.chance(50) {
+        let record_type = random.pick(&[-1, -5, 1, 2, -101, -102, -103, 999_999_999, -999_999_999]);
+        Record::local(record_type, random.between(-1000, 10), time, processor)
+    } else {
+        let event = random.pick(&[
+            -1, -10, -13, -14, -20, -81, -200, -203, -220, -222, -250, -252, -400, -403, -500, -504, -600,
+            -604, -900, -905, -910, -915, -1001, -999_999_999,
+        ]);
+        Record::local(random.pick(&[-2, -3, -4, 0]), event, time, processor)
+    };
+    record.process = random.pick(&[0, 0, 1, -1, 999_999_999]);
+    if random.chance(50) {
+        const ENDS: [&[u8]; 8] =
+            [b" x", b"  ", b" \"%d%lf\" -11 0.000098", b" 2 1", b" \r", b" a  b ", b" \xff\x00", b" -21 8\t"];
+        let count = random.pick(&[1, 2, 7, 16, 17, 999]);
+        record.data = Data::Free(count, random.pick(&ENDS).to_vec());
+    }
+    record
+}

@@ -1,0 +1,71 @@
+//! The traces that the benchmark runs on, each at or near a limit of size.
+
+use super::flat_table;
+use super::record::{Data, Record, joined, trace_of};
+use super::shape::{chain, clocks_off, many_types, neighbours};
+use crate::{MAX_BYTES, MAX_RECORDS};
+
+/// A trace and its table, read leniently.
+pub struct Workload {
+    pub name: &'static str,
+    pub trace: Vec<u8>,
+    pub latencies: Vec<u32>,
+    pub wanted: bool,
+}
+
+/// Ten processors keep a line of a message at 30 bytes, so that 2,048 of them fit.
+const ROW: usize = 10;
+const LATENCY: u32 = 20;
+
+pub fn all() -> Vec<Workload> {
+    let sound = neighbours(MAX_RECORDS, ROW, i64::from(LATENCY));
+    let mut off = sound.clone();
+    clocks_off(&mut off, 1_000_000);
+    let of = |name, trace, latency| Workload { name, trace, latencies: flat_table(latency), wanted: false };
+    vec![
+        of("2,048 records without messages", trace_of(&user_events(MAX_RECORDS)), 0),
+        of("neighbours, sound clocks", trace_of(&sound), LATENCY),
+        of("neighbours, clocks off by a second", trace_of(&off), LATENCY),
+        Workload { wanted: true, ..of("the same, the written trace wanted", trace_of(&off), LATENCY) },
+        of("a chain of 2,000 rounds", trace_of(&chain(2_001, ROW)), 1),
+        of("65,536 bytes passed over", passed_over(), 0),
+        of("a hundred types on one pair", trace_of(&many_types(MAX_RECORDS, 100)), 5),
+        of("a bad last line", bad_last_line(sound), LATENCY),
+    ]
+}
+
+fn user_events(records: usize) -> Vec<Record> {
+    (0..records as i64)
+        .map(|place| {
+            let mut record = Record::local(-3 - place % 2, place % 50, 100 * place, place % 64);
+            if place % 4 == 0 {
+                record.data = Data::Wholes(vec![place, -1]);
+            }
+            record
+        })
+        .collect()
+}
+
+/// Statistics, as in the report's Table 20, to the last byte.
+fn passed_over() -> Vec<u8> {
+    let lines = [
+        &b"-101 -1 0.001982 6 0 2 \"%d%lf\" 0 0.000523 1 0.001013\n"[..],
+        b"-102 -1 0.001982 6 0 2 \"%d%d\" 0 1 1 1\n",
+        b"-103 1 0.001982 6 0 2 \"%d%d\" -21 8 -52 8\n",
+    ];
+    let mut trace: Vec<u8> = lines.into_iter().cycle().take(1_600).flatten().copied().collect();
+    trace.truncate(MAX_BYTES - 60);
+    let whole_lines = trace.iter().rposition(|&byte| byte == b'\n').map_or(0, |last| last + 1);
+    trace.truncate(whole_lines);
+    trace.extend(lines[0]);
+    let end = trace.len() - 1;
+    trace.splice(end..end, vec![b' '; MAX_BYTES - 1 - end]);
+    trace
+}
+
+fn bad_last_line(mut records: Vec<Record>) -> Vec<u8> {
+    records.pop();
+    let mut lines: Vec<Vec<u8>> = records.iter().map(Record::text).collect();
+    lines.push(b"-4 -52 0.000000 9 0 3 2 8 1 x".to_vec());
+    joined(&lines)
+}

@@ -1,0 +1,132 @@
+//! Document 01 in plain Rust: one trace in; verdict, counts, corrected times and the corrected
+//! trace out.
+//!
+//! Written from the paper alone, to be held against the proved library (`outside/compare.rs`) and
+//! measured beside it (`outside/bench.rs`). The modules follow the paper's order: [`form`] and
+//! [`line`] are "One line, one record", [`trace`] reads line after line, [`message`] and [`clock`]
+//! are "Matching and the clock condition", [`report`] is what the program prints.
+
+#![forbid(unsafe_code)]
+
+pub mod clock;
+pub mod form;
+pub mod generator;
+pub mod line;
+pub mod message;
+pub mod refusal;
+pub mod report;
+pub mod trace;
+pub mod trial;
+
+use refusal::Refusal;
+
+/// Processors are numbered below this.
+pub const PROCESSORS: usize = 64;
+/// One latency for each pair, the entry at 64 times sender plus receiver.
+pub const LATENCIES: usize = PROCESSORS * PROCESSORS;
+/// The highest latency, in microseconds.
+pub const MAX_LATENCY: u32 = 1_000_000;
+/// The most bytes that a trace may have, and the room that the program lends.
+pub const MAX_BYTES: usize = 65_536;
+/// The most listed records, and the number of lent times.
+pub const MAX_RECORDS: usize = 2_048;
+/// The highest time, in microseconds; the lowest is its negative.
+pub const MAX_TIME: i64 = 999_999_999_999_999;
+
+/// What a caller gets back: the nine numbers that the static library returns, in its order.
+#[repr(C)]
+#[derive(Clone, Copy, Debug, Default, PartialEq, Eq)]
+pub struct Answer {
+    /// 0 for an accepted trace, else the refusal.
+    pub number: u64,
+    /// The line that the refusal means, counted from 1; 0 for none.
+    pub line: u64,
+    /// 1 consistent, 2 corrected, 3 nothing to judge; 0 if refused.
+    pub verdict: u64,
+    pub listed: u64,
+    pub passed: u64,
+    pub matched: u64,
+    pub unreceived: u64,
+    pub rounds: u64,
+    /// The length of the written trace; 0 if it was not asked for.
+    pub written: u64,
+}
+
+/// Whether unlisted lines are refused or passed over.
+#[derive(Clone, Copy, Debug, PartialEq, Eq)]
+pub enum Choice {
+    Strict,
+    Lenient,
+}
+
+/// Judges a trace. An accepted one leaves the corrected times in the first places of `times` and, if
+/// `wanted`, the written trace at the start of `room`; a refusal touches neither.
+pub fn judge(
+    trace: &[u8],
+    latencies: &[u32],
+    choice: u32,
+    times: &mut [i64],
+    wanted: bool,
+    room: &mut [u8],
+) -> Answer {
+    match accept(trace, latencies, choice, times, wanted, room) {
+        Ok(answer) => answer,
+        Err(Refusal { number, line }) => Answer { number, line, ..Answer::default() },
+    }
+}
+
+fn accept(
+    trace: &[u8],
+    latencies: &[u32],
+    choice: u32,
+    times: &mut [i64],
+    wanted: bool,
+    room: &mut [u8],
+) -> Result<Answer, Refusal> {
+    let choice = match choice {
+        1 => Choice::Strict,
+        2 => Choice::Lenient,
+        _ => return Err(Refusal::of_all(refusal::CHOICE)),
+    };
+    if latencies.len() != LATENCIES || times.len() != MAX_RECORDS {
+        return Err(Refusal::of_all(refusal::LENGTH));
+    }
+    if latencies.iter().any(|&latency| latency > MAX_LATENCY) {
+        return Err(Refusal::of_all(refusal::LATENCY));
+    }
+    if trace.len() > MAX_BYTES {
+        return Err(Refusal::of_all(refusal::BYTES));
+    }
+
+    let trace::Listing { records, passed } = trace::read(trace, choice)?;
+    let message::Messages { send_of, matched, unreceived } = message::pair(&records)?;
+    let settled = clock::settle(&records, &send_of, latencies);
+    let clock::Settled { times: corrected, rounds } = settled.ok_or(Refusal::of_all(refusal::NO_TIMES))?;
+
+    let mut written = 0;
+    if wanted {
+        let text = trace::rewrite(trace, &records, &corrected);
+        let start = room.get_mut(..text.len()).ok_or(Refusal::of_all(refusal::ROOM))?;
+        start.copy_from_slice(&text);
+        written = text.len();
+    }
+    times[..corrected.len()].copy_from_slice(&corrected);
+
+    let moved = records.iter().zip(&corrected).any(|(record, &time)| record.time != time);
+    let verdict = match (matched, moved) {
+        (0, _) => 3,
+        (_, true) => 2,
+        (_, false) => 1,
+    };
+    Ok(Answer {
+        number: 0,
+        line: 0,
+        verdict,
+        listed: records.len() as u64,
+        passed,
+        matched,
+        unreceived,
+        rounds,
+        written: written as u64,
+    })
+}

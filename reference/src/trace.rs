@@ -1,0 +1,67 @@
+//! The lines of a trace one after the other, and the trace written again with other times.
+
+use crate::form::write_time;
+use crate::line::{self, Line, Role};
+use crate::refusal::{FORM, ORDER, RECORDS, Refusal};
+use crate::{Choice, MAX_RECORDS, PROCESSORS};
+use std::ops::Range;
+
+/// A listed record in its trace.
+#[derive(Clone, Debug, PartialEq, Eq)]
+pub struct Record {
+    /// Its line, counted from 1.
+    pub line: u64,
+    pub processor: usize,
+    pub time: i64,
+    /// Where its timestamp stands in the trace.
+    pub stamp: Range<usize>,
+    pub role: Role,
+}
+
+/// The listed records in file order, and how many lines were passed over.
+#[derive(Debug)]
+pub struct Listing {
+    pub records: Vec<Record>,
+    pub passed: u64,
+}
+
+/// Reads line by line; the first bad line decides.
+pub fn read(trace: &[u8], choice: Choice) -> Result<Listing, Refusal> {
+    let mut records = Vec::new();
+    let mut passed = 0;
+    let mut last: [Option<i64>; PROCESSORS] = [None; PROCESSORS];
+    let mut start = 0;
+    for (text, number) in trace.split_inclusive(|&byte| byte == b'\n').zip(1..) {
+        let refused = |refusal| Refusal { number: refusal, line: number };
+        let text_without_end = text.strip_suffix(b"\n").ok_or(refused(FORM))?;
+        match line::read(text_without_end, choice).map_err(refused)? {
+            Line::Passed => passed += 1,
+            Line::Listed(line::Record { processor, time, stamp, role }) => {
+                if last[processor].is_some_and(|last| time < last) {
+                    return Err(refused(ORDER));
+                }
+                if records.len() == MAX_RECORDS {
+                    return Err(refused(RECORDS));
+                }
+                last[processor] = Some(time);
+                let stamp = start + stamp.start..start + stamp.end;
+                records.push(Record { line: number, processor, time, stamp, role });
+            }
+        }
+        start += text.len();
+    }
+    Ok(Listing { records, passed })
+}
+
+/// The trace's bytes with each listed record's timestamp replaced.
+pub fn rewrite(trace: &[u8], records: &[Record], times: &[i64]) -> Vec<u8> {
+    let mut text = Vec::with_capacity(trace.len());
+    let mut copied = 0;
+    for (record, &time) in records.iter().zip(times) {
+        text.extend_from_slice(&trace[copied..record.stamp.start]);
+        write_time(time, &mut text);
+        copied = record.stamp.end;
+    }
+    text.extend_from_slice(&trace[copied..]);
+    text
+}

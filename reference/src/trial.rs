@@ -1,0 +1,149 @@
+//! One judge held against another on a case: the answer, and every place of what was lent, the
+//! untouched ones and those around them among them.
+
+use crate::Answer;
+use crate::generator::Case;
+use std::collections::BTreeMap;
+use std::fmt;
+
+/// Places before and after each lent slice, which nobody may touch.
+const MARGIN: usize = 16;
+
+/// A buffer with a lent slice somewhere inside.
+#[derive(Default)]
+struct Lent<T> {
+    buffer: Vec<T>,
+    start: usize,
+    length: usize,
+}
+
+impl<T: Copy + PartialEq> Lent<T> {
+    /// Fills the whole buffer with a pattern and lends so many places of it.
+    fn prepare(&mut self, offset: usize, length: usize, pattern: impl FnMut(usize) -> T) {
+        self.start = MARGIN + offset % MARGIN;
+        self.length = length;
+        self.buffer.clear();
+        self.buffer.extend((0..self.start + length + MARGIN).map(pattern));
+    }
+
+    fn slice(&mut self) -> &mut [T] {
+        // An empty slice need not stand in any buffer.
+        if self.length == 0 && self.start.is_multiple_of(2) {
+            return &mut [];
+        }
+        &mut self.buffer[self.start..self.start + self.length]
+    }
+}
+
+/// Everything that is lent in one call.
+#[derive(Default)]
+pub struct Call {
+    trace: Lent<u8>,
+    latencies: Lent<u32>,
+    times: Lent<i64>,
+    room: Lent<u8>,
+}
+
+impl Call {
+    /// Runs a judge on a case, with slices that stand where the case says.
+    pub fn run(
+        &mut self,
+        case: &Case,
+        judge: impl FnOnce(&[u8], &[u32], u32, &mut [i64], bool, &mut [u8]) -> Answer,
+    ) -> Answer {
+        let mix = |place: usize| (case.seed ^ place as u64).wrapping_mul(0x9e37_79b9_7f4a_7c15);
+        self.trace.prepare(case.offset, case.trace.len(), |place| mix(place) as u8);
+        self.trace.slice().copy_from_slice(&case.trace);
+        self.latencies.prepare(case.offset / 3, case.latencies.len(), |place| mix(place) as u32);
+        self.latencies.slice().copy_from_slice(&case.latencies);
+        self.times.prepare(case.offset / 5, case.times, |place| mix(place) as i64);
+        self.room.prepare(case.offset / 2, case.room, |place| (mix(place) >> 56) as u8);
+        judge(
+            self.trace.slice(),
+            self.latencies.slice(),
+            case.choice,
+            self.times.slice(),
+            case.wanted,
+            self.room.slice(),
+        )
+    }
+}
+
+/// The first way in which two finished calls differ.
+pub fn difference(one: (&Answer, &Call), other: (&Answer, &Call)) -> Option<String> {
+    if one.0 != other.0 {
+        return Some(format!("answers differ:\n  {:?}\n  {:?}", one.0, other.0));
+    }
+    let (one, other) = (one.1, other.1);
+    place_of_difference("times", &one.times, &other.times)
+        .or_else(|| place_of_difference("room", &one.room, &other.room))
+        .or_else(|| place_of_difference("trace", &one.trace, &other.trace))
+        .or_else(|| place_of_difference("latencies", &one.latencies, &other.latencies))
+}
+
+fn place_of_difference<T: PartialEq + fmt::Debug>(
+    name: &str,
+    one: &Lent<T>,
+    other: &Lent<T>,
+) -> Option<String> {
+    if one.buffer == other.buffer {
+        return None;
+    }
+    let place = one.buffer.iter().zip(&other.buffer).position(|(one, other)| one != other)?;
+    Some(format!(
+        "{name} differ at place {} of {}:\n  {:?}\n  {:?}",
+        place as i64 - one.start as i64,
+        one.length,
+        one.buffer[place],
+        other.buffer[place]
+    ))
+}
+
+/// How often each number and each verdict came up, and how often each kind of trace.
+#[derive(Clone, Debug, Default, PartialEq, Eq)]
+pub struct Tally {
+    pub numbers: [u64; 17],
+    pub verdicts: [u64; 4],
+    pub kinds: BTreeMap<&'static str, u64>,
+}
+
+impl Tally {
+    pub fn cases(&self) -> u64 {
+        self.numbers.iter().sum()
+    }
+
+    pub fn count(&mut self, case: &Case, answer: &Answer) {
+        self.numbers[answer.number as usize] += 1;
+        self.verdicts[answer.verdict as usize] += 1;
+        *self.kinds.entry(case.kind).or_default() += 1;
+    }
+
+    /// What came up less often than a run of 200,000 cases must show.
+    pub fn too_seldom(&self) -> Vec<String> {
+        let numbers = self.numbers.iter().enumerate().map(|(number, &times)| {
+            let floor = if matches!(number, 4 | 12) { 100 } else { 500 };
+            (format!("number {number}"), times, floor)
+        });
+        let verdicts = (1..=3).map(|verdict| (format!("verdict {verdict}"), self.verdicts[verdict], 500));
+        numbers
+            .chain(verdicts)
+            .filter(|&(_, times, floor)| times < floor)
+            .map(|(name, times, floor)| format!("{name} came up {times} times, {floor} are asked"))
+            .collect()
+    }
+}
+
+impl fmt::Display for Tally {
+    fn fmt(&self, out: &mut fmt::Formatter) -> fmt::Result {
+        for (kind, times) in &self.kinds {
+            writeln!(out, "{kind:<15}{times:>8}")?;
+        }
+        for (number, times) in self.numbers.iter().enumerate() {
+            writeln!(out, "number {number:<8}{times:>8}")?;
+        }
+        for verdict in 1..=3 {
+            writeln!(out, "verdict {verdict:<7}{:>8}", self.verdicts[verdict])?;
+        }
+        Ok(())
+    }
+}

@@ -1,0 +1,60 @@
+//! What the tests share: a judge with everything lent as it should be, and the sample traces.
+
+use reference::generator::flat_table;
+use reference::{Answer, MAX_BYTES, MAX_RECORDS, judge};
+
+pub const TRACE_A: &str = "\
+-3 -21 0.000010 0 0 3 2 8 1 1
+-4 -21 0.000012 0 0 0
+-4 -52 0.000009 1 0 3 2 8 1 0
+-3 -21 0.000011 1 0 3 2 8 2 0
+-4 -51 0.000013 0 0 3 2 8 2 1
+";
+
+#[allow(dead_code)]
+pub const TRACE_B: &str = "\
+-4 -52 0.000001 0 0 3 2 8 1 1
+-3 -21 0.000002 0 0 3 2 8 1 1
+-4 -52 0.000003 1 0 3 2 8 1 0
+-3 -21 0.000004 1 0 3 2 8 1 0
+";
+
+#[allow(dead_code)]
+pub const STRICT: u32 = 1;
+pub const LENIENT: u32 = 2;
+
+/// The answer, and the places of the times that were touched.
+pub fn judged(trace: impl AsRef<[u8]>, latencies: &[u32], choice: u32) -> (Answer, Vec<i64>) {
+    let mut times = vec![i64::MIN; MAX_RECORDS];
+    let answer = judge(trace.as_ref(), latencies, choice, &mut times, false, &mut []);
+    let touched = times.iter().rposition(|&time| time != i64::MIN).map_or(0, |last| last + 1);
+    times.truncate(touched);
+    (answer, times)
+}
+
+/// Number and line under latencies 0.
+#[allow(dead_code)]
+pub fn number(trace: impl AsRef<[u8]>, choice: u32) -> (u64, u64) {
+    let (answer, times) = judged(trace, &flat_table(0), choice);
+    assert_eq!(answer.number == 0, answer.verdict != 0);
+    assert_eq!(times.len() as u64, answer.listed);
+    (answer.number, answer.line)
+}
+
+/// The written trace under one latency everywhere.
+#[allow(dead_code)]
+pub fn written(trace: impl AsRef<[u8]>, latency: u32) -> Vec<u8> {
+    let mut times = vec![0; MAX_RECORDS];
+    let mut room = vec![0; MAX_BYTES];
+    let latencies = flat_table(latency);
+    let answer = judge(trace.as_ref(), &latencies, LENIENT, &mut times, true, &mut room);
+    assert_eq!(answer.number, 0);
+    room.truncate(answer.written as usize);
+    room
+}
+
+/// The first lines of a trace.
+#[allow(dead_code)]
+pub fn first_lines(trace: &str, count: usize) -> String {
+    trace.split_inclusive('\n').take(count).collect()
+}
