@@ -1,3 +1,4 @@
 pub mod Cursors
 pub mod Heads
 pub mod Datas
+pub mod Outcome

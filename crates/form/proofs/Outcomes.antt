@@ -14,7 +14,7 @@ use Rattle.paper.specs.declared.Field.{Field}
 use Rattle.paper.specs.Forms.{wholeOf, timeOf, timeShown}
 use Rattle.form.specs.declared.Put.{Put}
 use Rattle.form.specs.declared.Put.the-variants.{At, NoRoom, NoTime}
-use Rattle.form.specs.Writes.{putOf, roomAfter, timePut, TimePut}
+use Rattle.form.specs.Writes.{putOf, roomAfter, timePut, TimePut, shownLength}
 
 -- ---- one outcome
 
@@ -28,6 +28,9 @@ pub one-time-put : {room : List ℕ} {at : ℕ} {z : ℤ} {r q : Put} {a b : Lis
 one-time-put p q =
     let e = p .answer ∙ sym (q .answer) in
     (e, p .holds ∙ rw e (sym (q .holds)))
+
+pub one-length : (z : ℤ) (r q : ℕ) → r ≡ shownLength z → q ≡ shownLength z → r ≡ q
+one-length z r q e f = e ∙ sym f
 
 -- ---- the answers of `write_time`
 

@@ -1,2 +1,3 @@
 pub mod Sorts
 pub mod Parts
+pub mod Outcome

@@ -3,3 +3,4 @@ pub mod Keys
 pub mod Sides
 pub mod Buckets
 pub mod Sends
+pub mod Outcome

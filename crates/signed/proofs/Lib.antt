@@ -1,2 +1,3 @@
 pub mod Equal
 pub mod Sizes
+pub mod Outcome

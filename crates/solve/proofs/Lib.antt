@@ -1,3 +1,4 @@
 pub mod Parts
 pub mod Engine
 pub mod Matches
+pub mod Outcome

@@ -3,3 +3,4 @@ pub mod Listed
 pub mod Counts
 pub mod Places
 pub mod Laws
+pub mod Outcome
