@@ -16,7 +16,7 @@ use Rattle.bytes.specs.Bytes.{indexOf, slice}
 use Rattle.paper.specs.Line.{field, after, goesOn, rest, First, nothing, first, onField, firstOf}
 use Rattle.paper.specs.declared.Field.{Field}
 use Rattle.paper.specs.declared.Field.the-variants.{Good, Bad}
-use Rattle.fields.specs.Cursor.{restAt, gotOf, countedOf}
+use Rattle.fields.specs.Cursor.{restAt, gotOf, gotNext, countedOf, countedNext, Tells}
 use Rattle.fields.specs.declared.Got.{Got}
 use Rattle.fields.specs.declared.Got.the-variants.{Value, Nothing}
 use Rattle.fields.specs.declared.Counted.{Counted}
@@ -75,20 +75,33 @@ none-here form l at h = rw (past l at h)
 
 -- ---- what the answer of a reader says
 
-module _ (l : List ℕ) (r : Got) (found : First) (is : gotOf l r ≡ found) where
+module _ (l : List ℕ) (r : Got) (found : First) (told : Tells l (gotOf l r) found (gotNext r)) where
   pub got : (v : ℤ) (next : ℕ) → r ≡ Value v next → found ≡ first v (restAt l next)
   unfolding gotOf
-  got v next e = sym is ∙ ap (gotOf l) e
+  got v next e = sym (told .is) ∙ ap (gotOf l) e
+
+  pub got-near : (v : ℤ) (next : ℕ) → r ≡ Value v next → next ≤ length l + 1
+  got-near v next e = rw e at (told .near)
 
   pub not-got : r ≡ Nothing → found ≡ nothing
   unfolding gotOf
-  not-got e = sym is ∙ ap (gotOf l) e
+  not-got e = sym (told .is) ∙ ap (gotOf l) e
 
-module _ (l : List ℕ) (r : Counted) (found : First) (is : countedOf l r ≡ found) where
+module _ (l : List ℕ) (r : Counted) (found : First) (told : Tells l (countedOf l r) found (countedNext r)) where
   pub counted : (n next : ℕ) → r ≡ Counted.Of n next → found ≡ first (pos n) (restAt l next)
   unfolding countedOf
-  counted n next e = sym is ∙ ap (countedOf l) e
+  counted n next e = sym (told .is) ∙ ap (countedOf l) e
+
+  pub counted-near : (n next : ℕ) → r ≡ Counted.Of n next → next ≤ length l + 1
+  counted-near n next e = rw e at (told .near)
 
   pub not-counted : r ≡ Counted.Nothing → found ≡ nothing
   unfolding countedOf
-  not-counted e = sym is ∙ ap (countedOf l) e
+  not-counted e = sym (told .is) ∙ ap (countedOf l) e
+
+-- an answer without a cursor
+pub without : {A : Type 0} {said there : A} (l : List ℕ) → said ≡ there → Tells l said there 0
+without l e = record { is = e; near = omega arith }
+
+pub instead : {A : Type 0} {l : List ℕ} {said there other : A} {cursor : ℕ} → Tells l said there cursor → there ≡ other → Tells l said other cursor
+instead told e = record { is = told .is ∙ e; near = told .near }

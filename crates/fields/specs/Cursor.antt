@@ -1,5 +1,6 @@
 -- What a cursor in a line means, and what the code's answers mean at it.
-use Prim.Native.Nat.{ℕ}
+use Prim.Native.Nat.{ℕ, _+_, _≤_}
+use mathlib.Core.Path.{_≡_}
 use mathlib.Core.List.{List}
 use mathlib.Core.Bool.{Bool, true, false, cond}
 use mathlib.Core.Option.{Option, none, some}
@@ -27,17 +28,36 @@ readAs Time = timeOf
 unfoldable pub restAt : List ℕ → ℕ → Option (List ℕ)
 restAt l at = cond (ltb (length l) at) none (some (drop at l))
 
+-- what an answer says of the line, and where its cursor stands
+
 unfoldable pub gotOf : List ℕ → Got → First
 gotOf l Nothing = nothing
 gotOf l (Value v next) = first v (restAt l next)
+
+abbrev pub gotNext : Got → ℕ
+gotNext Nothing = 0
+gotNext (Value v next) = next
+
+unfoldable pub countedOf : List ℕ → Counted → First
+countedOf l Counted.Nothing = nothing
+countedOf l (Counted.Of n next) = first (pos n) (restAt l next)
+
+abbrev pub countedNext : Counted → ℕ
+countedNext Counted.Nothing = 0
+countedNext (Counted.Of n next) = next
 
 unfoldable pub begunOf : List ℕ → Opening → Begun
 begunOf l (Bad fault) = bad fault
 begunOf l (Six h next) = six h (restAt l next)
 
-unfoldable pub countedOf : List ℕ → Counted → First
-countedOf l Counted.Nothing = nothing
-countedOf l (Counted.Of n next) = first (pos n) (restAt l next)
+abbrev pub begunNext : Opening → ℕ
+begunNext (Bad fault) = 0
+begunNext (Six h next) = next
+
+-- the answer says what there is; a cursor that stands past the end is one past it
+pub record Tells {A : Type 0} (l : List ℕ) (said there : A) (cursor : ℕ) : Type 0 where
+  pub is : said ≡ there
+  pub near : cursor ≤ length l + 1
 
 -- what a line comes to whose timestamp is bad
 unfoldable pub badStamp : List ℕ → Begun

@@ -1,7 +1,7 @@
 // "The six fields left to right".
 ghost use mathlib.Core.Path.{_≡_};
 ghost use Rattle.paper.specs.Line.{headOf, placeOf, fieldsAbove};
-ghost use Rattle.fields.specs.Cursor.{restAt, begunOf, badStamp};
+ghost use Rattle.fields.specs.Cursor.{restAt, begunOf, begunNext, Tells, badStamp};
 use crate::Counted;
 use crate::Form;
 use crate::Got;
@@ -12,7 +12,7 @@ use paper::Head;
 
 // Processor, process and number of data fields, behind the three fields that were read.
 fn place(l: &[u8], at: usize, kind: i64, event: i64, time: i64) -> Opening
-    ensures { λ r. ⌜ begunOf (now (l .entry)) r ≡ placeOf kind event time (restAt (now (l .entry)) at) ⌝ }
+    ensures { λ r. ⌜ Tells (now (l .entry)) (begunOf (now (l .entry)) r) (placeOf kind event time (restAt (now (l .entry)) at)) (begunNext r) ⌝ }
 {
     let Got::Value(processor, p4) = take::value_at(l, at, Form::Whole) else {
         return Opening::Bad(Fault::Form);
@@ -56,7 +56,7 @@ fn fields_above(l: &[u8], n: usize) -> bool
 // "fewer than six fields (5)" comes before a bad timestamp (6). Of every other field both say 5, so that only a bad timestamp has
 // the fields counted.
 pub(crate) fn six(l: &[u8]) -> Opening
-    ensures { λ r. ⌜ begunOf (now (l .entry)) r ≡ headOf (now (l .entry)) ⌝ }
+    ensures { λ r. ⌜ Tells (now (l .entry)) (begunOf (now (l .entry)) r) (headOf (now (l .entry))) (begunNext r) ⌝ }
 {
     let Got::Value(kind, p1) = take::value_at(l, 0, Form::Whole) else {
         return Opening::Bad(Fault::Form);
@@ -71,7 +71,7 @@ pub(crate) fn six(l: &[u8]) -> Opening
 }
 
 fn bad_stamp(l: &[u8]) -> Opening
-    ensures { λ r. ⌜ begunOf (now (l .entry)) r ≡ badStamp (now (l .entry)) ⌝ }
+    ensures { λ r. ⌜ Tells (now (l .entry)) (begunOf (now (l .entry)) r) (badStamp (now (l .entry))) (begunNext r) ⌝ }
 {
     if fields_above(l, 5) {
         return Opening::Bad(Fault::Stamp);

@@ -6,7 +6,7 @@ mod take;
 
 ghost use mathlib.Core.Path.{_≡_};
 ghost use Rattle.paper.specs.Line.{headOf, dataOf};
-ghost use Rattle.fields.specs.Cursor.{restAt, begunOf};
+ghost use Rattle.fields.specs.Cursor.{restAt, begunOf, begunNext, Tells};
 use paper::Data;
 use paper::Fault;
 use paper::Head;
@@ -37,7 +37,7 @@ pub enum Opening {
 
 // "fewer than six fields (5); the six fields left to right (5 or 6), the data count here as 0 to 999"
 pub fn read_head(l: &[u8]) -> Opening
-    ensures { λ r. ⌜ begunOf (now (l .entry)) r ≡ headOf (now (l .entry)) ⌝ }
+    ensures { λ r. ⌜ Tells (now (l .entry)) (begunOf (now (l .entry)) r) (headOf (now (l .entry))) (begunNext r) ⌝ }
 {
     head::six(l)
 }

@@ -1,7 +1,7 @@
 // One field.
 ghost use mathlib.Core.Path.{_≡_};
 ghost use Rattle.paper.specs.Line.{firstOf, countOf};
-ghost use Rattle.fields.specs.Cursor.{restAt, gotOf, countedOf, readAs};
+ghost use Rattle.fields.specs.Cursor.{restAt, gotOf, gotNext, countedOf, countedNext, Tells, readAs};
 use crate::Counted;
 use crate::Form;
 use crate::Got;
@@ -19,7 +19,7 @@ fn read_as(form: Form, s: &[u8]) -> Field
 
 // The field that starts at the cursor.
 pub(crate) fn value_at(l: &[u8], at: usize, form: Form) -> Got
-    ensures { λ r. ⌜ gotOf (now (l .entry)) r ≡ firstOf (readAs form) (restAt (now (l .entry)) at) ⌝ }
+    ensures { λ r. ⌜ Tells (now (l .entry)) (gotOf (now (l .entry)) r) (firstOf (readAs form) (restAt (now (l .entry)) at)) (gotNext r) ⌝ }
 {
     if l.len() < at {
         return Got::Nothing;
@@ -33,7 +33,7 @@ pub(crate) fn value_at(l: &[u8], at: usize, form: Form) -> Got
 
 // "Number of data fields: 0 to 999"
 pub(crate) fn count_at(l: &[u8], at: usize) -> Counted
-    ensures { λ r. ⌜ countedOf (now (l .entry)) r ≡ firstOf countOf (restAt (now (l .entry)) at) ⌝ }
+    ensures { λ r. ⌜ Tells (now (l .entry)) (countedOf (now (l .entry)) r) (firstOf countOf (restAt (now (l .entry)) at)) (countedNext r) ⌝ }
 {
     let Got::Value(v, next) = value_at(l, at, Form::Whole) else {
         return Counted::Nothing;

@@ -29,7 +29,7 @@ fn unread() -> Loaded
 
 // A read that fails looks like the end of the file to `read_full`, so where the buffer is not full the end is asked for. A
 // directory opens, and fails here.
-pub fn load_open(file: i32, buffer: &mut [u8]) -> Loaded
+pub(crate) fn load_open(file: i32, buffer: &mut [u8]) -> Loaded
     ensures { λ r. ⌜ Counts (r .len) (now (buffer .exit)) ⌝ }
 {
     let len = io::read_full(file, buffer);

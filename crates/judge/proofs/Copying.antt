@@ -7,6 +7,9 @@ use native.Mathlib.Omega.{arith}
 use lib.ListN.{length, take, drop, set, getD, length-append, length-take, length-drop}
 use lib.Seq.{length-take-le, drop-cons, set-at, take-suc, append-snoc, take-all}
 use lib.IntN.{ℤ, pos}
+use borrow.Author.Tests.{ne-eqb}
+use Rattle.paper.specs.declared.Answer.{Answer}
+use Rattle.judge.specs.Answers.{timesAfter}
 
 -- the first i are copied
 pub record Copied (new times₀ times : List ℤ) (i : ℕ) : Type 0 where
@@ -33,3 +36,11 @@ module _ (new times₀ : List ℤ) (room : length new ≤ length times₀) where
 
     pub copied-all : length new ≤ i → times ≡ new ++ drop (length new) times₀
     copied-all h = let e : i ≡ length new = omega (arith, copied .upto) in copied .holds ∙ rw (e, take-all (length new) new (omega arith))
+
+-- a refusal leaves the lent times
+pub kept : (number : ℕ) (new times : List ℤ) → (number ≡ 0 → ⊥) → times ≡ timesAfter number new times
+unfolding timesAfter
+kept number new times h = rw (ne-eqb number 0 h)
+
+pub behind : (new times : List ℤ) {a b : Answer} {t : List ℤ} → a ≡ b → t ≡ timesAfter (a .number) new times → (a ≡ b) × (t ≡ timesAfter (b .number) new times)
+behind new times e h = (e, rw e at h)

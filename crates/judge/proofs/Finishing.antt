@@ -12,6 +12,7 @@ use lib.Dec.{T, ltb, leb}
 use borrow.Author.Tests.{le-leb, lt-leb, lt-ltb, le-ltb, leb-true, leb-false}
 use Rattle.paper.specs.Answer.{Inputs, Outcome, accepted, originals, onWritten, written, verdictOf, refused}
 use Rattle.paper.specs.Clock.{Waits, listed, same, settle, settled, timeAt}
+use Rattle.paper.specs.Numbers.{numberOf}
 use Rattle.paper.specs.Matching.{waitsOf, matchedCount, unreceivedCount, entryAt}
 use Rattle.paper.specs.Reading.{Reading, readOf, linesOf}
 use Rattle.paper.specs.Written.{writtenFrom}
@@ -33,7 +34,7 @@ use Rattle.writing.specs.declared.Written.{Written}
 use Rattle.writing.specs.declared.Written.the-variants.{Length, NoRoom, NoForm}
 use Rattle.writing.proofs.ByLine.{bytes-written}
 use Rattle.judge.specs.declared.answer.Counts.{Counts}
-use Rattle.judge.specs.Answers.{refusal, acceptance, verdictBy, given, Held, Found}
+use Rattle.judge.specs.Answers.{refusal, acceptance, answerFor, timesAfter, verdictBy, given, Held, Found}
 use Rattle.judge.proofs.Answers.{refused-is}
 
 -- times that are all in range have a form each
@@ -94,6 +95,13 @@ module _ (choice : Choice) (trace latencies : List ℕ) (store new : List ℤ) (
           let n : counts .rounds ≡ 0 → ⊥ = λ z. rw e at (subst (λ (xs : List ℤ). T (same xs first)) (sym (equal z)) (equal-same first)) in
           sym (lt-ltb 0 (counts .rounds) (omega arith))
 
+  bytes : List ℕ
+  bytes = writtenFrom choice (linesOf trace) new
+
+  bytes-are : bytesFor trace store new ≡ bytes
+  unfolding bytes
+  bytes-are = bytes-written choice 2048 trace store new (found .held .stop) (rw (found .all) (found .held .entries))
+
   module _ (times : List ℤ) (wanted : Bool) (room : List ℕ) where
     abbrev i : Inputs
     i = given choice trace latencies times wanted room
@@ -104,19 +112,17 @@ module _ (choice : Choice) (trace latencies : List ℕ) (store new : List ℤ) (
     unfolding accepted acceptance verdictBy es w waitsOf first
     accepted-is bytes = rw (moved, found .matched, found .unreceived, found .held .many, found .held .over)
 
-    pub unasked : wanted ≡ false → {a : Answer} {t : List ℤ} → a ≡ acceptance counts 0 → t ≡ new ++ drop (length new) times
-        → _≡_ {A = Outcome} (record { answer = a; times = t; room = room }) (onWritten i (readOf choice 2048 trace) (waitsOf latencies (readOf choice 2048 trace .entries)) (counts .rounds) new (written i choice new))
-    unfolding onWritten written w es accepted
-    unasked e p q = rw (e, p, q, le-ltb (length room) 0 (omega arith)) (sym (accepted-is []))
+    abbrev Finished : Answer → List ℤ → List ℕ → Type 0
+    Finished a t room′ =
+        _≡_ {A = Outcome} (record { answer = a; times = t; room = room′ })
+        (onWritten i (readOf choice 2048 trace) (waitsOf latencies (readOf choice 2048 trace .entries)) (counts .rounds) new (written i choice new))
+
+    pub unasked : wanted ≡ false → {a : Answer} {t : List ℤ}
+        → (a ≡ answerFor counts (Length 0)) × (t ≡ timesAfter (answerFor counts (Length 0) .number) new times) → Finished a t room
+    unfolding onWritten written w es accepted answerFor timesAfter acceptance
+    unasked e p = rw (e, p .0, p .1, le-ltb (length room) 0 (omega arith)) (sym (accepted-is []))
 
     module _ (asked : wanted ≡ true) (r : Written) (room′ : List ℕ) (into : WrittenInto trace store new room r room′) where
-      bytes : List ℕ
-      bytes = writtenFrom choice (linesOf trace) new
-
-      bytes-are : bytesFor trace store new ≡ bytes
-      unfolding bytes
-      bytes-are = bytes-written choice 2048 trace store new (found .held .stop) (rw (found .all) (found .held .entries))
-
       answers : r ≡ cond (leb (length bytes) (length room)) (Length (length bytes)) NoRoom
       unfolding answerOf
       answers = rw (all-shown, bytes-are) at (into .answer)
@@ -125,35 +131,16 @@ module _ (choice : Choice) (trace latencies : List ℕ) (store new : List ℤ) (
       unfolding written bytes
       written-is = rw asked
 
-      pub asked-written : (n : ℕ) → r ≡ Length n → {a : Answer} {t : List ℤ} → a ≡ acceptance counts n → t ≡ new ++ drop (length new) times
-          → _≡_ {A = Outcome} (record { answer = a; times = t; room = room′ }) (onWritten i (readOf choice 2048 trace) (waitsOf latencies (readOf choice 2048 trace .entries)) (counts .rounds) new (written i choice new))
-      unfolding onWritten roomAfter w es
-      asked-written n e {a} {t} p q = go (leb (length bytes) (length room)) refl (sym answers ∙ e)
+      pub when-asked : {a : Answer} {t : List ℤ} → (a ≡ answerFor counts r) × (t ≡ timesAfter (answerFor counts r .number) new times) → Finished a t room′
+      unfolding onWritten roomAfter w es answerFor timesAfter acceptance refusal numberOf
+      when-asked {a} {t} p = go (leb (length bytes) (length room)) refl answers
         where
-          go : (b : Bool) → leb (length bytes) (length room) ≡ b → cond b (Length (length bytes)) NoRoom ≡ Length n
-              → _≡_ {A = Outcome} (record { answer = a; times = t; room = room′ }) (onWritten i (readOf choice 2048 trace) (waitsOf latencies (readOf choice 2048 trace .entries)) (counts .rounds) new (written i choice new))
-          go true f g =
-              let m : length bytes ≡ n = cc in
-              let h : room′ ≡ bytes ++ drop n room = rw (e, bytes-are) at (into .holds) in
-              rw (p, q, h, written-is, le-ltb (length room) (length bytes) (leb-true (length bytes) (length room) f), ← m) (sym (accepted-is bytes))
-          go false f g = cc
-
-      pub asked-no-room : r ≡ NoRoom → {a : Answer} → a ≡ refusal Fault.NoRoom 0
-          → _≡_ {A = Outcome} (record { answer = a; times = times; room = room′ }) (onWritten i (readOf choice 2048 trace) (waitsOf latencies (readOf choice 2048 trace .entries)) (counts .rounds) new (written i choice new))
-      unfolding onWritten roomAfter
-      asked-no-room e {a} p = go (leb (length bytes) (length room)) refl (sym answers ∙ e)
-        where
-          go : (b : Bool) → leb (length bytes) (length room) ≡ b → cond b (Length (length bytes)) NoRoom ≡ NoRoom
-              → _≡_ {A = Outcome} (record { answer = a; times = times; room = room′ }) (onWritten i (readOf choice 2048 trace) (waitsOf latencies (readOf choice 2048 trace .entries)) (counts .rounds) new (written i choice new))
-          go true f g = cc
-          go false f g =
+          go : (b : Bool) → leb (length bytes) (length room) ≡ b → r ≡ cond b (Length (length bytes)) NoRoom → Finished a t room′
+          go true f e =
+              let h : room′ ≡ bytes ++ drop (length bytes) room = rw (e, bytes-are) at (into .holds) in
+              let q : (a ≡ acceptance counts (length bytes)) × (t ≡ new ++ drop (length new) times) = rw e at p in
+              rw (q .0, q .1, h, written-is, le-ltb (length room) (length bytes) (leb-true (length bytes) (length room) f)) (sym (accepted-is bytes))
+          go false f e =
               let h : room′ ≡ room = rw e at (into .holds) in
-              rw (p, h, written-is, lt-ltb (length room) (length bytes) (leb-false (length bytes) (length room) f)) (refused-is i Fault.NoRoom 0)
-
-      pub asked-never : r ≡ NoForm → {a : Answer}
-          → _≡_ {A = Outcome} (record { answer = a; times = times; room = room′ }) (onWritten i (readOf choice 2048 trace) (waitsOf latencies (readOf choice 2048 trace .entries)) (counts .rounds) new (written i choice new))
-      asked-never e {a} = absurd (let z = go (leb (length bytes) (length room)) (sym answers ∙ e) in omega arith)
-        where
-          go : (b : Bool) → cond b (Length (length bytes)) NoRoom ≡ NoForm → _≡_ {A = ℕ} 0 1
-          go true g = cc
-          go false g = cc
+              let q : (a ≡ refusal Fault.NoRoom 0) × (t ≡ times) = rw e at p in
+              rw (q .0, q .1, h, written-is, lt-ltb (length room) (length bytes) (leb-false (length bytes) (length room) f)) (refused-is i Fault.NoRoom 0)

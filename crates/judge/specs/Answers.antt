@@ -1,11 +1,11 @@
 -- The answers, and what the functions below the call have in hand.
 use Prim.Native.Nat.{ℕ, _/_, _≤_}
 use mathlib.Core.Path.{_≡_}
-use mathlib.Core.List.{List}
-use mathlib.Core.Bool.{Bool}
-use lib.ListN.{length}
+use mathlib.Core.List.{List, _++_}
+use mathlib.Core.Bool.{Bool, cond}
+use lib.ListN.{length, drop}
 use lib.IntN.{ℤ}
-use lib.Dec.{ltb}
+use lib.Dec.{ltb, eqb}
 use Rattle.paper.specs.Numbers.{numberOf}
 use Rattle.paper.specs.Answer.{Inputs, verdictOf}
 use Rattle.paper.specs.Reading.{readOf}
@@ -14,9 +14,12 @@ use Rattle.paper.specs.Clock.{settle, settled}
 use Rattle.paper.specs.declared.Choice.{Choice}
 use Rattle.paper.specs.declared.Choice.the-variants.{Strict, Lenient}
 use Rattle.paper.specs.declared.Fault.{Fault}
+use Rattle.paper.specs.declared.Fault.the-variants as Fault
 use Rattle.paper.specs.declared.Answer.{Answer}
 use Rattle.paper.specs.declared.Stop.the-variants.{End}
 use Rattle.store.specs.Layout.{entriesIn}
+use Rattle.writing.specs.declared.Written.{Written}
+use Rattle.writing.specs.declared.Written.the-variants.{Length, NoRoom, NoForm}
 use Rattle.judge.specs.declared.answer.Counts.{Counts}
 
 unfoldable pub refusal : Fault → ℕ → Answer
@@ -49,6 +52,16 @@ acceptance c written =
       rounds = c .rounds;
       written = written;
     }
+
+-- "then 16", or acceptance with the written trace's length
+unfoldable pub answerFor : Counts → Written → Answer
+answerFor c (Length bytes) = acceptance c bytes
+answerFor c NoRoom = refusal Fault.NoRoom 0
+answerFor c NoForm = refusal Fault.NoRoom 0
+
+-- the lent times behind an answer: the new ones at their start after acceptance, after a refusal as they were
+unfoldable pub timesAfter : ℕ → (new times : List ℤ) → List ℤ
+timesAfter number new times = cond (eqb number 0) (new ++ drop (length new) times) times
 
 -- the number that a caller names a choice by
 unfoldable pub chosen : Choice → ℕ

@@ -6,7 +6,7 @@ ghost use lib.ListN.{length, drop};
 ghost use Rattle.paper.specs.Answer.{Outcome, onWritten, written};
 ghost use Rattle.paper.specs.Matching.{waitsOf};
 ghost use Rattle.paper.specs.Reading.{readOf};
-ghost use Rattle.judge.specs.Answers.{given, Found};
+ghost use Rattle.judge.specs.Answers.{given, Found, answerFor, timesAfter};
 use crate::answer;
 use crate::answer::Counts;
 use paper::Answer;
@@ -26,6 +26,38 @@ fn copy_times(new: &[i64], times: &mut [i64])
     }
 }
 
+// 16, or acceptance with the written trace's length.
+fn answer_for(counts: Counts, done: Written) -> Answer
+    ensures { λ r. ⌜ r ≡ answerFor counts done ⌝ }
+{
+    match done {
+        Written::Length(bytes) => answer::accepted(counts, bytes),
+        Written::NoRoom => answer::refused(Fault::NoRoom, 0),
+        // never: the times that the clock condition settles are within the limit
+        Written::NoForm => answer::refused(Fault::NoRoom, 0),
+    }
+}
+
+// The lent times are written at acceptance and not before.
+fn keep_times(number: u64, new: &[i64], times: &mut [i64])
+    requires { ⌜ length (now new) ≤ length (now times) ⌝ }
+    ensures { λ _. ⌜ now (times .exit) ≡ timesAfter number (now (new .entry)) (now (times .entry)) ⌝ }
+{
+    if number == 0 {
+        copy_times(new, times);
+    }
+}
+
+fn concluded(counts: Counts, done: Written, new: &[i64], times: &mut [i64]) -> Answer
+    requires { ⌜ length (now new) ≤ length (now times) ⌝ }
+    ensures { λ r. ⌜ (r ≡ answerFor counts done) × (now (times .exit) ≡ timesAfter (answerFor counts done .number) (now (new .entry)) (now (times .entry))) ⌝ }
+{
+    let answer = answer_for(counts, done);
+    let number = answer.number;
+    keep_times(number, new, times);
+    answer
+}
+
 pub(crate) fn finish(
     choice: Choice,
     trace: &[u8],
@@ -43,17 +75,8 @@ pub(crate) fn finish(
 {
     if wanted {
         let done = writing::write_trace(trace, store, new, room);
-        match done {
-            Written::Length(bytes) => {
-                copy_times(new, times);
-                answer::accepted(counts, bytes)
-            }
-            Written::NoRoom => answer::refused(Fault::NoRoom, 0),
-            // never: the times that the clock condition settles are within the limit
-            Written::NoForm => answer::refused(Fault::NoRoom, 0),
-        }
+        concluded(counts, done, new, times)
     } else {
-        copy_times(new, times);
-        answer::accepted(counts, 0)
+        concluded(counts, Written::Length(0), new, times)
     }
 }

@@ -20,7 +20,7 @@ use Rattle.paper.specs.declared.Standing.{Standing}
 use Rattle.paper.specs.declared.Standing.the-variants as Standing
 use Rattle.paper.specs.declared.Line.{Line}
 use Rattle.paper.specs.declared.Line.the-variants.{Refused, Passed, Listed}
-use Rattle.fields.specs.Cursor.{restAt, begunOf}
+use Rattle.fields.specs.Cursor.{restAt, begunOf, begunNext, Tells}
 use Rattle.fields.specs.declared.Opening.{Opening}
 use Rattle.fields.specs.declared.Opening.the-variants as Opening
 
@@ -89,11 +89,11 @@ module _ (choice : Choice) (h : Head) (fields : Option (List ℕ)) where
 
 -- ---- from the head
 
-module _ (choice : Choice) (l : List ℕ) (r : Opening) (is : begunOf l r ≡ headOf l) where
+module _ (choice : Choice) (l : List ℕ) (r : Opening) (told : Tells l (begunOf l r) (headOf l) (begunNext r)) where
   pub opened : (h : Head) (next : ℕ) → r ≡ Opening.Six h next → begun choice (six h (restAt l next)) ≡ lineOf choice l
   unfolding lineOf begunOf
-  opened h next e = ap (begun choice) (sym (ap (begunOf l) e) ∙ is)
+  opened h next e = ap (begun choice) (sym (ap (begunOf l) e) ∙ told .is)
 
   pub not-opened : (fault : Fault) → r ≡ Opening.Bad fault → Refused fault ≡ lineOf choice l
   unfolding lineOf begunOf begun
-  not-opened fault e = ap (begun choice) (sym (ap (begunOf l) e) ∙ is)
+  not-opened fault e = ap (begun choice) (sym (ap (begunOf l) e) ∙ told .is)

@@ -52,6 +52,6 @@ module _ (l : List ℤ) (n : ℕ) where
     pub all-counted : Matched received (sent - received) ≡ Matched (matchedCount (entriesIn l n)) (unreceivedCount (entriesIn l n))
     all-counted = rw (received-all, unreceived-all, ← e, ← r, ← s)
 
-    pub none-over : sent < received
+    pub none-over : sent ≤ received
         → Matched received 0 ≡ Matched (matchedCount (entriesIn l n)) (unreceivedCount (entriesIn l n))
     none-over h = let z : 0 ≡ sent - received = omega arith in ap (λ (x : ℕ). Matched received x) z ∙ all-counted

@@ -114,10 +114,11 @@ fn counted(store: &[i64], n: usize) -> Matching
         sent += sends_one(role);
         i += 1;
     }
-    if sent < received {
+    if sent <= received {
         return Matching::Matched(received, 0);
     }
-    Matching::Matched(received, sent - received)
+    let unreceived = sent - received;
+    Matching::Matched(received, unreceived)
 }
 
 fn answered(store: &[i64], sends: &[usize]) -> Matching

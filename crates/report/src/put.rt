@@ -43,7 +43,7 @@ fn put_verdict(room: &mut [u8], verdict: u64) -> usize
     }
 }
 
-pub fn put_refused(room: &mut [u8], number: u64, line: u64) -> usize
+pub(crate) fn put_refused(room: &mut [u8], number: u64, line: u64) -> usize
     requires { ⌜ 55 ≤ length (now room) ⌝ }
     ensures { λ r. ⌜ Put (now (room .entry)) 0 (refusedShown number line) r (now (room .exit)) ⌝ }
 {
@@ -52,7 +52,7 @@ pub fn put_refused(room: &mut [u8], number: u64, line: u64) -> usize
     put_numbered(room, b, b" line ", line)
 }
 
-pub fn put_accepted(room: &mut [u8], answer: Answer) -> usize
+pub(crate) fn put_accepted(room: &mut [u8], answer: Answer) -> usize
     requires { ⌜ 176 ≤ length (now room) ⌝ }
     ensures { λ r. ⌜ Put (now (room .entry)) 0 (acceptedShown answer) r (now (room .exit)) ⌝ }
 {

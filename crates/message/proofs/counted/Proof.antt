@@ -57,6 +57,9 @@ returns c =
     let l = c .before .before .loop in
     none-over _ _ (l .i) _ _ (l .inv .3) (l .inv .4) (omega arith) (omega arith)
 
+sub-unreceived : tie.Need-sub-unreceived Inv-loop μ-loop
+sub-unreceived c = search needs
+
 returns-2 : tie.Need-returns-2 Inv-loop μ-loop
 returns-2 c =
     let l = c .before .before .loop in
@@ -78,4 +81,5 @@ counted-spec =
     loop-less
     loop-again
     returns
+    sub-unreceived
     returns-2)

@@ -1,9 +1,8 @@
 -- `fields::head::place` meets its contract.
 use borrow.Author.Needs.{needs}
-use mathlib.Core.Path.{_≡_, sym, ap, _∙_}
-use Rattle.paper.specs.Line.{placeOf, fieldsAbove}
-use Rattle.fields.specs.Cursor.{restAt, gotOf, countedOf, begunOf, readAs, badStamp}
-use Rattle.fields.proofs.Cursors.{got, not-got, counted, not-counted, at-start}
+use Rattle.paper.specs.Line.{placeOf}
+use Rattle.fields.specs.Cursor.{begunOf, readAs}
+use Rattle.fields.proofs.Cursors.{got, not-got, counted, counted-near, not-counted, without}
 use Rattle.fields.proofs.Heads.{made}
 use Rattle.fields.proofs.head.place.Statement.{statement}
 use Rattle.fields.proofs.head.place.Tie as tie
@@ -19,7 +18,7 @@ enum-told c = search needs
 
 returns : tie.Need-returns
 unfolding begunOf placeOf readAs
-returns c = rw (not-got _ _ _ (c .before .before .value-at .ensures) (c .enum-told .given .1))
+returns c = without _ (rw (not-got _ _ _ (c .before .before .value-at .ensures) (c .enum-told .given .1)))
 
 value-at-requires-2 : tie.Need-value-at-requires-2
 value-at-requires-2 c κs = search needs
@@ -32,7 +31,7 @@ enum-told-2 c = search needs
 
 returns-2 : tie.Need-returns-2
 unfolding begunOf placeOf readAs
-returns-2 c = rw (got _ _ _ (c .before .before .before .before .before .before .value-at .ensures) _ _ (c .before .before .before .before .processor .given .1), not-got _ _ _ (c .before .before .value-at2 .ensures) (c .enum-told2 .given .1))
+returns-2 c = without _ (rw (got _ _ _ (c .before .before .before .before .before .before .value-at .ensures) _ _ (c .before .before .before .before .processor .given .1), not-got _ _ _ (c .before .before .value-at2 .ensures) (c .enum-told2 .given .1)))
 
 count-at-requires : tie.Need-count-at-requires
 count-at-requires c κs = search needs
@@ -45,11 +44,16 @@ enum-told-3 c = search needs
 
 returns-3 : tie.Need-returns-3
 unfolding begunOf placeOf readAs
-returns-3 c = rw (got _ _ _ (c .before .before .before .before .before .before .before .before .before .before .value-at .ensures) _ _ (c .before .before .before .before .before .before .before .before .processor .given .1), got _ _ _ (c .before .before .before .before .before .before .value-at2 .ensures) _ _ (c .before .before .before .before .process .given .1), not-counted _ _ _ (c .before .before .count-at .ensures) (c .enum-told3 .given .1))
+returns-3 c = without _ (rw (got _ _ _ (c .before .before .before .before .before .before .before .before .before .before .value-at .ensures) _ _ (c .before .before .before .before .before .before .before .before .processor .given .1), got _ _ _ (c .before .before .before .before .before .before .value-at2 .ensures) _ _ (c .before .before .before .before .process .given .1), not-counted _ _ _ (c .before .before .count-at .ensures) (c .enum-told3 .given .1)))
 
 returns-4 : tie.Need-returns-4
 unfolding begunOf placeOf readAs
-returns-4 c = rw (got _ _ _ (c .before .before .before .before .before .before .before .before .before .before .before .value-at .ensures) _ _ (c .before .before .before .before .before .before .before .before .before .processor .given .1), got _ _ _ (c .before .before .before .before .before .before .before .value-at2 .ensures) _ _ (c .before .before .before .before .before .process .given .1), counted _ _ _ (c .before .before .before .count-at .ensures) _ _ (c .before .count .given .1)) (made _ _ (search needs) (search needs) (search needs) (search needs) (search needs))
+returns-4 c =
+    record {
+      is =
+          rw (got _ _ _ (c .before .before .before .before .before .before .before .before .before .before .before .value-at .ensures) _ _ (c .before .before .before .before .before .before .before .before .before .processor .given .1), got _ _ _ (c .before .before .before .before .before .before .before .value-at2 .ensures) _ _ (c .before .before .before .before .before .process .given .1), counted _ _ _ (c .before .before .before .count-at .ensures) _ _ (c .before .count .given .1)) (made _ _ (search needs) (search needs) (search needs) (search needs) (search needs));
+      near = counted-near _ _ _ (c .before .before .before .count-at .ensures) _ _ (c .before .count .given .1);
+    }
 
 pub place-spec : {M : Type 1} → statement M
 place-spec =

@@ -3,7 +3,7 @@ use borrow.Author.Needs.{needs}
 use mathlib.Core.Path.{_≡_, sym, ap, _∙_}
 use Rattle.paper.specs.Line.{placeOf, fieldsAbove}
 use Rattle.fields.specs.Cursor.{restAt, gotOf, countedOf, begunOf, readAs, badStamp}
-use Rattle.fields.proofs.Cursors.{got, not-got, counted, not-counted, at-start}
+use Rattle.fields.proofs.Cursors.{got, got-near, not-got, without}
 use Rattle.fields.proofs.Heads.{no-count, count-outside, count-good}
 use Rattle.fields.proofs.take.count_at.Statement.{statement}
 use Rattle.fields.proofs.take.count_at.Tie as tie
@@ -19,7 +19,7 @@ enum-told c = search needs
 
 returns : tie.Need-returns
 unfolding countedOf readAs
-returns c = no-count _ (not-got _ _ _ (c .before .before .value-at .ensures) (c .enum-told .given .1))
+returns c = without _ (no-count _ (not-got _ _ _ (c .before .before .value-at .ensures) (c .enum-told .given .1)))
 
 up-to-requires : tie.Need-up-to-requires
 up-to-requires c κs = search needs
@@ -32,11 +32,17 @@ enum-told-2 c = search needs
 
 returns-2 : tie.Need-returns-2
 unfolding countedOf readAs
-returns-2 c = count-outside _ _ (search needs) (got _ _ _ (c .before .before .before .before .before .before .value-at .ensures) _ _ (c .before .before .before .before .v .given .1)) (sym (c .before .before .up-to .ensures) ∙ c .enum-told2 .given .1)
+returns-2 c = without _ (count-outside _ _ (search needs) (got _ _ _ (c .before .before .before .before .before .before .value-at .ensures) _ _ (c .before .before .before .before .v .given .1)) (sym (c .before .before .up-to .ensures) ∙ c .enum-told2 .given .1))
 
 returns-3 : tie.Need-returns-3
 unfolding countedOf readAs
-returns-3 c = count-good _ _ _ (search needs) (got _ _ _ (c .before .before .before .before .before .before .before .value-at .ensures) _ _ (c .before .before .before .before .before .v .given .1)) (sym (c .before .before .before .up-to .ensures) ∙ c .before .n .given .1)
+returns-3 c =
+    let read = c .before .before .before .before .before .before .before .value-at .ensures in
+    let v = c .before .before .before .before .before .v .given .1 in
+    record {
+      is = count-good _ _ _ (search needs) (got _ _ _ read _ _ v) (sym (c .before .before .before .up-to .ensures) ∙ c .before .n .given .1);
+      near = got-near _ _ _ read _ _ v;
+    }
 
 pub count-at-spec : {M : Type 1} → statement M
 count-at-spec =

@@ -2,13 +2,13 @@
 use mathlib.Core.Path.{_≡_, sym, _∙_}
 use borrow.Author.Needs.{needs}
 use Rattle.fields.specs.Cursor.{gotOf, readAs}
-use Rattle.fields.proofs.Cursors.{none-here, bad-here, good-here}
+use Rattle.fields.proofs.Cursors.{none-here, bad-here, good-here, without}
 use Rattle.fields.proofs.take.value_at.Statement.{statement}
 use Rattle.fields.proofs.take.value_at.Tie as tie
 
 returns : tie.Need-returns
 unfolding gotOf
-returns c = none-here _ _ _ (c .if1 .taken)
+returns c = without _ (none-here _ _ _ (c .if1 .taken))
 
 find-requires : tie.Need-find-requires
 find-requires c κs = search needs
@@ -37,14 +37,18 @@ enum-told c = search needs
 returns-2 : tie.Need-returns-2
 unfolding gotOf
 returns-2 c =
-    good-here _ _ _ (c .before .before .before .before .before .before .if1 .left) (c .before .before .before .before .before .find .ensures .0)
-    _ (search needs) (sym (c .before .before .before .read-as .ensures) ∙ c .before .v .given .1)
+    record {
+      is =
+          good-here _ _ _ (c .before .before .before .before .before .before .if1 .left) (c .before .before .before .before .before .find .ensures .0)
+          _ (search needs) (sym (c .before .before .before .read-as .ensures) ∙ c .before .v .given .1);
+      near = search needs;
+    }
 
 returns-3 : tie.Need-returns-3
 unfolding gotOf
 returns-3 c =
-    bad-here _ _ _ (c .before .before .before .before .before .if1 .left) (c .before .before .before .before .find .ensures .0)
-    _ (sym (c .before .before .read-as .ensures) ∙ c .enum-told .given .1)
+    without _ (bad-here _ _ _ (c .before .before .before .before .before .if1 .left) (c .before .before .before .before .find .ensures .0)
+    _ (sym (c .before .before .read-as .ensures) ∙ c .enum-told .given .1))
 
 pub value-at-spec : {M : Type 1} → statement M
 value-at-spec =

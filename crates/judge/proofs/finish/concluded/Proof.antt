@@ -1,0 +1,20 @@
+-- `judge::finish::concluded` meets its contract.
+use borrow.Author.Needs.{needs}
+use Rattle.judge.proofs.Copying.{behind}
+use Rattle.judge.proofs.finish.concluded.Statement.{statement}
+use Rattle.judge.proofs.finish.concluded.Tie as tie
+
+answer-for-requires : tie.Need-answer-for-requires
+answer-for-requires c κs = search needs
+
+keep-times-requires : tie.Need-keep-times-requires
+keep-times-requires c κs = search needs
+
+same-length : tie.Need-same-length
+same-length c = search needs
+
+returns : tie.Need-returns
+returns c = behind _ _ (c .before .before .before .answer-for .ensures) (c .before .keep-times .ensures)
+
+pub concluded-spec : {M : Type 1} → statement M
+concluded-spec = tie.close (tie.spec answer-for-requires keep-times-requires same-length returns)
