@@ -4,7 +4,7 @@ use Rattle.matching.proofs.Own.{own-send}
 use Rattle.demands.specs.Steps.{entries}
 use Rattle.demands.specs.Demand1.{Demand1}
 use Rattle.demands.specs.Demand2.{Demand2}
-use Rattle.demands.specs.Demand3.{Demand3, followedBy, under}
+use Rattle.demands.specs.Demand3.{Demand3}
 use Rattle.demands.proofs.Exactly.{answered}
 use Rattle.demands.proofs.Refusals.{accepted-exactly, refused-exactly, refusal-keeps}
 use Rattle.demands.proofs.Accepted.{accepted-answer}
@@ -41,7 +41,7 @@ demand-3 =
       earliest = λ i choice c e. earliest i (accepted-exactly i .0 e) choice c;
       given = matched-number;
       impossible = impossible-exactly;
-      first-lines = λ i more e f. times-stay i more (accepted-exactly i .0 e) (accepted-exactly (followedBy more i) .0 f);
-      raised-later = λ i table raised e f. none-earlier i table raised (accepted-exactly i .0 e) (accepted-exactly (under table i) .0 f);
+      first-lines = λ i j longer e f. times-stay i j longer (accepted-exactly i .0 e) (accepted-exactly j .0 f);
+      raised-later = λ i j raised e f. none-earlier i j raised (accepted-exactly i .0 e) (accepted-exactly j .0 f);
       raised-impossible = stays-impossible;
     }

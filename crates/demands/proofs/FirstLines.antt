@@ -19,7 +19,7 @@ use Rattle.rounds.specs.Compare.{First}
 use Rattle.rounds.proofs.Prefix.{first-times}
 use Rattle.demands.specs.Steps.{entries, waits, Accepted}
 use Rattle.demands.specs.Parts.{listed, time}
-use Rattle.demands.specs.Demand3.{followedBy}
+use Rattle.demands.specs.Demand3.{Longer}
 use Rattle.demands.proofs.Closed.{waits-closed}
 use Rattle.demands.proofs.Times.{one-choice, listed-is, time-is}
 
@@ -54,24 +54,24 @@ waits-first table es later e =
       latency = λ k l. sym (b .latency k l);
     }
 
-module _ (i : Inputs) (more : List ℕ) (a : Accepted i) (b : Accepted (followedBy more i)) where
+module _ (i j : Inputs) (longer : Longer i j) (a : Accepted i) (b : Accepted j) where
   whole-choice : b .choice ≡ a .choice
-  whole-choice = one-choice i (b .choice) (a .choice) (b .matched .read .begun .chosen) (a .matched .read .begun .chosen)
+  whole-choice = one-choice i (b .choice) (a .choice) (rw (longer .choice) at (b .matched .read .begun .chosen)) (a .matched .read .begun .chosen)
 
-  whole-entries : (later : List Entry) × (entries (followedBy more i) (b .choice) ≡ entries i (a .choice) ++ later)
+  whole-entries : (later : List Entry) × (entries j (b .choice) ≡ entries i (a .choice) ++ later)
   whole-entries =
-      let (later, e) = more-entries (a .choice) 2048 (i .trace) more (a .matched .read .whole) in
-      (later, rw whole-choice e)
+      let (later, e) = more-entries (a .choice) 2048 (i .trace) (longer .more) (a .matched .read .whole) in
+      (later, rw (whole-choice, longer .trace) e)
 
-  pub times-stay : (k : ℕ) → k < listed i → time i k ≡ time (followedBy more i) k
+  pub times-stay : (k : ℕ) → k < listed i → time i k ≡ time j k
   unfolding waitsOf
   times-stay k l =
       let es = entries i (a .choice) in
       let (later, e) = whole-entries in
       let inside : k < length es = rw (← listed-is i a) l in
-      let inside-whole : k < length (entries (followedBy more i) (b .choice)) = rw (e, length-append es later) (omega arith) in
-      let settles-whole : settle (waitsOf (i .latencies) (es ++ later)) ≡ settled (b .rounds) (b .times) = rw (← e) (b .settles) in
+      let inside-whole : k < length (entries j (b .choice)) = rw (e, length-append es later) (omega arith) in
+      let settles-whole : settle (waitsOf (i .latencies) (es ++ later)) ≡ settled (b .rounds) (b .times) = rw (← e, ← longer .latencies) (b .settles) in
       time-is i a k inside
       ∙ first-times (waits i (a .choice)) (waitsOf (i .latencies) (es ++ later)) (waits-first (i .latencies) es later (a .matched .matches))
       (waits-closed (i .latencies) es) (waits-closed (i .latencies) (es ++ later)) settles-whole (a .settles) k inside
-      ∙ sym (time-is (followedBy more i) b k inside-whole)
+      ∙ sym (time-is j b k inside-whole)

@@ -36,31 +36,14 @@ pub record Earliest (table : List ℕ) (es : List Entry) (x : ℕ → ℤ) : Typ
   pub allowed : Allowed table es x
   pub earliest : (y : ℕ → ℤ) → Allowed table es y → (k : ℕ) → k < length es → x k ≤ℤ y k
 
--- ---- other calls
+-- ---- other calls; what they are lent, and whether the trace is to be written, may differ
 
--- the call with more bytes behind its trace
-abbrev pub followedBy : List ℕ → Inputs → Inputs
-followedBy more i =
-    record {
-      trace = i .trace ++ more;
-      latencies = i .latencies;
-      choice = i .choice;
-      times = i .times;
-      wanted = i .wanted;
-      room = i .room;
-    }
-
--- the call with another table
-abbrev pub under : List ℕ → Inputs → Inputs
-under table i =
-    record {
-      trace = i .trace;
-      latencies = table;
-      choice = i .choice;
-      times = i .times;
-      wanted = i .wanted;
-      room = i .room;
-    }
+-- "the first lines of a trace .. and the whole .., under one table and one choice": j has more bytes behind i's trace
+pub record Longer (i j : Inputs) : Type 0 where
+  pub more : List ℕ
+  pub trace : j .trace ≡ i .trace ++ more
+  pub latencies : j .latencies ≡ i .latencies
+  pub choice : j .choice ≡ i .choice
 
 -- "a valid table"
 pub record Valid (table : List ℕ) : Type 0 where
@@ -68,10 +51,12 @@ pub record Valid (table : List ℕ) : Type 0 where
   pub low : (k : ℕ) → k < length table → getD table k 0 ≤ 1000000
 
 -- "Raising latencies from one valid table to another"
-pub record Raised (old new : List ℕ) : Type 0 where
-  pub from : Valid old
-  pub to : Valid new
-  pub higher : (k : ℕ) → k < 4096 → getD old k 0 ≤ getD new k 0
+pub record Raised (i j : Inputs) : Type 0 where
+  pub trace : j .trace ≡ i .trace
+  pub choice : j .choice ≡ i .choice
+  pub from : Valid (i .latencies)
+  pub to : Valid (j .latencies)
+  pub higher : (k : ℕ) → k < 4096 → getD (i .latencies) k 0 ≤ getD (j .latencies) k 0
 
 pub record Demand3 : Type 0 where
   -- "For a trace that no earlier check refuses and whose messages match, and a valid table, the times are the earliest that the
@@ -81,11 +66,9 @@ pub record Demand3 : Type 0 where
   -- "refused as impossible exactly if no such times exist"
   pub impossible : (i : Inputs) (choice : Choice) → Matched i choice
       → (number i ≡ 15) ↔ ((x : ℕ → ℤ) → Allowed (i .latencies) (entries i choice) x → ⊥)
-  -- "the later lines change no time of the earlier ones"
-  pub first-lines : (i : Inputs) (more : List ℕ) → number i ≡ 0 → number (followedBy more i) ≡ 0
-      → (k : ℕ) → k < listed i → time i k ≡ time (followedBy more i) k
+  -- "Where the first lines of a trace are accepted and the whole is too .., the later lines change no time of the earlier ones"
+  pub first-lines : (i j : Inputs) → Longer i j → number i ≡ 0 → number j ≡ 0 → (k : ℕ) → k < listed i → time i k ≡ time j k
   -- "Raising latencies .. never makes a time earlier"
-  pub raised-later : (i : Inputs) (table : List ℕ) → Raised (i .latencies) table → number i ≡ 0 → number (under table i) ≡ 0
-      → (k : ℕ) → k < listed i → time i k ≤ℤ time (under table i) k
+  pub raised-later : (i j : Inputs) → Raised i j → number i ≡ 0 → number j ≡ 0 → (k : ℕ) → k < listed i → time i k ≤ℤ time j k
   -- "and never turns "impossible" into an answer"
-  pub raised-impossible : (i : Inputs) (table : List ℕ) → Raised (i .latencies) table → number i ≡ 15 → number (under table i) ≡ 15
+  pub raised-impossible : (i j : Inputs) → Raised i j → number i ≡ 15 → length (j .times) ≡ 2048 → number j ≡ 15

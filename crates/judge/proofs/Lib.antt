@@ -4,3 +4,4 @@ pub mod Reading
 pub mod Settling
 pub mod Copying
 pub mod Finishing
+pub mod Demands
