@@ -24,9 +24,10 @@ pub record Places : Type 0 where
   pub sends : List ℕ
   pub link : List ℕ
 
+abbrev pub places : (sends link : List ℕ) → Places
+places sends link = record { sends = sends; link = link }
+
 -- the links come back cleared; where they are not as many as the places, nothing is touched
 unfoldable pub found : List ℤ → List ℕ → List ℕ → Places
 found store sends link =
-    cond (eqb (length link) (length sends))
-    (record { sends = placesOf (entriesIn store (length sends)); link = replicate (length sends) 0 })
-    (record { sends = sends; link = link })
+    cond (eqb (length link) (length sends)) (places (placesOf (entriesIn store (length sends))) (replicate (length sends) 0)) (places sends link)

@@ -6,7 +6,7 @@ ghost use Prim.Native.Nat.{_+_, _<_, _≤_};
 ghost use lib.ListN.{length, replicate};
 ghost use Rattle.store.specs.Layout.{entriesIn};
 ghost use Rattle.side.specs.Sides.{keyOf, bucketOf, sendUnder, receiveUnder};
-ghost use Rattle.chains.specs.Places.{Places, found};
+ghost use Rattle.chains.specs.Places.{places, found};
 ghost use Rattle.chains.specs.Chains.{Filled, First, Last, Chained, Placing, Forward, Backward, Ready, startFrom, sendUnderAt};
 use side::Key;
 use side::Side;
@@ -176,7 +176,7 @@ fn clear(link: &mut [usize])
 // Puts the place of each record's send, and clears the links, which are room for the work: as many as the places. Where they are
 // not, nothing is touched.
 pub fn find_sends(store: &[i64], sends: &mut [usize], link: &mut [usize])
-    ensures { λ r. ⌜ _≡_ {A = Places} (record { sends = now (sends .exit); link = now (link .exit) }) (found (now (store .entry)) (now (sends .entry)) (now (link .entry))) ⌝ }
+    ensures { λ r. ⌜ places (now (sends .exit)) (now (link .exit)) ≡ found (now (store .entry)) (now (sends .entry)) (now (link .entry)) ⌝ }
 {
     if link.len() != sends.len() {
         return;

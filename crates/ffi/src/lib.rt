@@ -1,7 +1,7 @@
 // The public call as a C function, for the static library. include/cantuvesh.h declares it.
 ghost use mathlib.Core.Path.{_≡_};
-ghost use Rattle.paper.specs.Answer as paper;
-ghost use Rattle.paper.specs.Answer.{Outcome};
+ghost use Rattle.paper.specs.Answer.{judge};
+ghost use Rattle.judge.specs.Call.{asked, outcome};
 use paper::Answer;
 
 #[no_mangle]
@@ -13,7 +13,7 @@ pub extern "C" fn cantuvesh_judge(
     wanted: bool,
     room: &mut [u8],
 ) -> Answer
-    ensures { λ r. ⌜ _≡_ {A = Outcome} (record { answer = r; times = now (times .exit); room = now (room .exit) }) (paper.judge (record { trace = now (trace .entry); latencies = now (latencies .entry); choice = choice; times = now (times .entry); wanted = wanted; room = now (room .entry) })) ⌝ }
+    ensures { λ r. ⌜ outcome r (now (times .exit)) (now (room .exit)) ≡ judge (asked (now (trace .entry)) (now (latencies .entry)) choice (now (times .entry)) wanted (now (room .entry))) ⌝ }
 {
     judge::judge(trace, latencies, choice, times, wanted, room)
 }

@@ -12,8 +12,9 @@ use Rattle.paper.specs.Reading.{readOf}
 use Rattle.paper.specs.declared.Answer.{Answer}
 use Rattle.paper.specs.declared.Choice.{Choice}
 use Rattle.paper.specs.declared.Fault.the-variants as Fault
-use Rattle.judge.specs.Answers.{refusal, given}
-use Rattle.judge.proofs.Answers.{refused-is}
+use Rattle.answer.specs.Answers.{refusal}
+use Rattle.judge.specs.Call.{given}
+use Rattle.judge.proofs.Choosing.{refused-is}
 
 module _ (choice : Choice) (trace latencies : List ℕ) (times : List ℤ) (wanted : Bool) (room : List ℕ) where
   abbrev i : Inputs

@@ -9,7 +9,7 @@ use lib.Seq.{length-take-le, drop-cons, set-at, take-suc, append-snoc, take-all}
 use lib.IntN.{ℤ, pos}
 use borrow.Author.Tests.{ne-eqb}
 use Rattle.paper.specs.declared.Answer.{Answer}
-use Rattle.judge.specs.Answers.{timesAfter}
+use Rattle.judge.specs.Call.{timesAfter}
 
 -- the first i are copied
 pub record Copied (new times₀ times : List ℤ) (i : ℕ) : Type 0 where

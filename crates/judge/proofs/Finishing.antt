@@ -33,9 +33,10 @@ use Rattle.writing.specs.Outcome.{WrittenInto, allShown, bytesFor, answerOf, ro
 use Rattle.writing.specs.declared.Written.{Written}
 use Rattle.writing.specs.declared.Written.the-variants.{Length, NoRoom, NoForm}
 use Rattle.writing.proofs.ByLine.{bytes-written}
-use Rattle.judge.specs.declared.answer.Counts.{Counts}
-use Rattle.judge.specs.Answers.{refusal, acceptance, answerFor, timesAfter, verdictBy, given, Held, Found}
-use Rattle.judge.proofs.Answers.{refused-is}
+use Rattle.answer.specs.declared.Counts.{Counts}
+use Rattle.answer.specs.Answers.{refusal, acceptance, verdictBy}
+use Rattle.judge.specs.Call.{answerFor, timesAfter, given, Held, Found}
+use Rattle.judge.proofs.Choosing.{refused-is}
 
 -- times that are all in range have a form each
 shown : (ts : List ℤ) → ((k : ℕ) → k < length ts → natAbs (timeAt ts k) ≤ 999999999999999) → allShown ts ≡ true

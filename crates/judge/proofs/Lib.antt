@@ -1,4 +1,4 @@
-pub mod Answers
+pub mod Choosing
 pub mod Checking
 pub mod Reading
 pub mod Settling

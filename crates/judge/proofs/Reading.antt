@@ -18,8 +18,9 @@ use Rattle.store.proofs.Laws.{read-laid}
 use Rattle.trace.specs.Read.{ReadInto, answerOf, storeAfter}
 use Rattle.trace.specs.declared.Read.{Read}
 use Rattle.trace.proofs.Entries.{listed-many, listed-few, entries-small}
-use Rattle.judge.specs.Answers.{refusal, given, Held}
-use Rattle.judge.proofs.Answers.{refused-is}
+use Rattle.answer.specs.Answers.{refusal}
+use Rattle.judge.specs.Call.{given, Held}
+use Rattle.judge.proofs.Choosing.{refused-is}
 
 module _ (choice : Choice) (trace : List ℕ) (store₀ : List ℤ) (long : length store₀ ≡ 14336) (r : Read) (store : List ℤ)
     (into : ReadInto choice trace store₀ r store) where

@@ -25,9 +25,10 @@ use Rattle.solve.specs.declared.Solved.{Solved}
 use Rattle.solve.specs.declared.Solved.the-variants.{Times, Refused, Impossible, Misfit}
 use Rattle.solve.proofs.Parts.{part-back}
 use Rattle.waits.proofs.Closed.{closed-waits}
-use Rattle.judge.specs.declared.answer.Counts.{Counts}
-use Rattle.judge.specs.Answers.{refusal, given, Held, Found}
-use Rattle.judge.proofs.Answers.{refused-is}
+use Rattle.answer.specs.declared.Counts.{Counts}
+use Rattle.answer.specs.Answers.{refusal}
+use Rattle.judge.specs.Call.{given, Held, Found}
+use Rattle.judge.proofs.Choosing.{refused-is}
 
 module _ (choice : Choice) (trace latencies : List ℕ) (store : List ℤ) (listed passed : ℕ) (held : Held choice trace store listed passed)
     (lent : List ℤ) (all : length lent ≡ listed) (s : Solved) (new : List ℤ)

@@ -1,9 +1,8 @@
 // "1 to 4": what is asked of the lent table, the lent times and the size of the trace.
 ghost use mathlib.Core.Path.{_≡_};
 ghost use mathlib.Core.Option.{some};
-ghost use Rattle.paper.specs.Answer.{Outcome, lowLatencies, onChoice};
-ghost use Rattle.judge.specs.Answers.{given};
-use crate::answer;
+ghost use Rattle.paper.specs.Answer.{lowLatencies, onChoice};
+ghost use Rattle.judge.specs.Call.{given, outcome};
 use crate::read;
 use paper::Answer;
 use paper::Choice;
@@ -31,7 +30,7 @@ pub(crate) fn check(
     wanted: bool,
     room: &mut [u8],
 ) -> Answer
-    ensures { λ r. ⌜ _≡_ {A = Outcome} (record { answer = r; times = now (times .exit); room = now (room .exit) }) (onChoice (given choice (now (trace .entry)) (now (latencies .entry)) (now (times .entry)) wanted (now (room .entry))) (some choice)) ⌝ }
+    ensures { λ r. ⌜ outcome r (now (times .exit)) (now (room .exit)) ≡ onChoice (given choice (now (trace .entry)) (now (latencies .entry)) (now (times .entry)) wanted (now (room .entry))) (some choice) ⌝ }
 {
     if latencies.len() != 4096 {
         return answer::refused(Fault::WrongLength, 0);

@@ -3,12 +3,8 @@ ghost use mathlib.Core.Path.{_≡_};
 ghost use mathlib.Core.List.{_++_};
 ghost use Prim.Native.Nat.{_≤_};
 ghost use lib.ListN.{length, drop};
-ghost use Rattle.paper.specs.Answer.{Outcome, onWritten, written};
-ghost use Rattle.paper.specs.Matching.{waitsOf};
-ghost use Rattle.paper.specs.Reading.{readOf};
-ghost use Rattle.judge.specs.Answers.{given, Found, answerFor, timesAfter};
-use crate::answer;
-use crate::answer::Counts;
+ghost use Rattle.judge.specs.Call.{given, outcome, onTimes, Found, answerFor, timesAfter};
+use answer::Counts;
 use paper::Answer;
 use paper::Choice;
 use paper::Fault;
@@ -48,6 +44,7 @@ fn keep_times(number: u64, new: &[i64], times: &mut [i64])
     }
 }
 
+// The answer first, and the times by it.
 fn concluded(counts: Counts, done: Written, new: &[i64], times: &mut [i64]) -> Answer
     requires { ⌜ length (now new) ≤ length (now times) ⌝ }
     ensures { λ r. ⌜ (r ≡ answerFor counts done) × (now (times .exit) ≡ timesAfter (answerFor counts done .number) (now (new .entry)) (now (times .entry))) ⌝ }
@@ -71,7 +68,7 @@ pub(crate) fn finish(
 ) -> Answer
     requires { ⌜ Found choice (now trace) (now latencies) (now store) (now new) counts ⌝ }
     requires { ⌜ length (now times) ≡ 2048 ⌝ }
-    ensures { λ r. ⌜ _≡_ {A = Outcome} (record { answer = r; times = now (times .exit); room = now (room .exit) }) (onWritten (given choice (now (trace .entry)) (now (latencies .entry)) (now (times .entry)) wanted (now (room .entry))) (readOf choice 2048 (now (trace .entry))) (waitsOf (now (latencies .entry)) (readOf choice 2048 (now (trace .entry)) .entries)) (counts .rounds) (now (new .entry)) (written (given choice (now (trace .entry)) (now (latencies .entry)) (now (times .entry)) wanted (now (room .entry))) choice (now (new .entry)))) ⌝ }
+    ensures { λ r. ⌜ outcome r (now (times .exit)) (now (room .exit)) ≡ onTimes (given choice (now (trace .entry)) (now (latencies .entry)) (now (times .entry)) wanted (now (room .entry))) choice (counts .rounds) (now (new .entry)) ⌝ }
 {
     if wanted {
         let done = writing::write_trace(trace, store, new, room);

@@ -2,10 +2,7 @@
 ghost use mathlib.Core.Path.{_≡_};
 ghost use Prim.Native.Nat.{_≤_};
 ghost use lib.ListN.{length};
-ghost use Rattle.paper.specs.Answer.{Outcome, onRead};
-ghost use Rattle.paper.specs.Reading.{readOf};
-ghost use Rattle.judge.specs.Answers.{given};
-use crate::answer;
+ghost use Rattle.judge.specs.Call.{given, outcome, onLines};
 use crate::settle;
 use paper::Answer;
 use paper::Choice;
@@ -28,7 +25,7 @@ pub(crate) fn read(
 ) -> Answer
     requires { ⌜ length (now trace) ≤ 65536 ⌝ }
     requires { ⌜ length (now times) ≡ 2048 ⌝ }
-    ensures { λ r. ⌜ _≡_ {A = Outcome} (record { answer = r; times = now (times .exit); room = now (room .exit) }) (onRead (given choice (now (trace .entry)) (now (latencies .entry)) (now (times .entry)) wanted (now (room .entry))) choice (readOf choice 2048 (now (trace .entry))) (readOf choice 2048 (now (trace .entry)) .stop)) ⌝ }
+    ensures { λ r. ⌜ outcome r (now (times .exit)) (now (room .exit)) ≡ onLines (given choice (now (trace .entry)) (now (latencies .entry)) (now (times .entry)) wanted (now (room .entry))) choice ⌝ }
 {
     let mut store = empty_store();
     let read = trace::read_trace(choice, trace, &mut store);

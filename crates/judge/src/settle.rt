@@ -1,13 +1,9 @@
 // "then the first receive in file order that calls for 13 or 14 ..; then 15": the times of the records in the store.
 ghost use mathlib.Core.Path.{_≡_};
 ghost use lib.ListN.{length};
-ghost use Rattle.paper.specs.Answer.{Outcome, onMatched};
-ghost use Rattle.paper.specs.Matching.{matchedOf};
-ghost use Rattle.paper.specs.Reading.{readOf};
-ghost use Rattle.judge.specs.Answers.{given, Held};
-use crate::answer;
-use crate::answer::Counts;
+ghost use Rattle.judge.specs.Call.{given, outcome, onRecords, Held};
 use crate::finish;
+use answer::Counts;
 use paper::Answer;
 use paper::Choice;
 use paper::Fault;
@@ -32,7 +28,7 @@ pub(crate) fn settle(
 ) -> Answer
     requires { ⌜ Held choice (now trace) (now store) listed passed ⌝ }
     requires { ⌜ length (now times) ≡ 2048 ⌝ }
-    ensures { λ r. ⌜ _≡_ {A = Outcome} (record { answer = r; times = now (times .exit); room = now (room .exit) }) (onMatched (given choice (now (trace .entry)) (now (latencies .entry)) (now (times .entry)) wanted (now (room .entry))) choice (readOf choice 2048 (now (trace .entry))) (matchedOf (readOf choice 2048 (now (trace .entry)) .entries))) ⌝ }
+    ensures { λ r. ⌜ outcome r (now (times .exit)) (now (room .exit)) ≡ onRecords (given choice (now (trace .entry)) (now (latencies .entry)) (now (times .entry)) wanted (now (room .entry))) choice ⌝ }
 {
     let mut new = blanks();
     match solve::solve(store, latencies, &mut new[0..listed]) {

@@ -19,6 +19,9 @@ pub record Outcome : Type 0 where
   pub sends : List ℕ
   pub link : List ℕ
 
+abbrev pub outcome : Matching → (sends link : List ℕ) → Outcome
+outcome answer sends link = record { answer = answer; sends = sends; link = link }
+
 abbrev pub answerFor : List Entry → Stop → Matching
 answerFor es (At fault line) = Refused fault line
 answerFor es End = Matched (matchedCount es) (unreceivedCount es)
@@ -34,8 +37,7 @@ fitting store sends link = eqb (length link) (length sends) && leb (length sends
 unfoldable pub matching : List ℤ → List ℕ → List ℕ → Outcome
 matching store sends link =
     let es = entriesIn store (length sends) in
-    cond (fitting store sends link) (record { answer = answerOf es; sends = placesOf es; link = replicate (length sends) 0 })
-    (record { answer = Misfit; sends = sends; link = link })
+    cond (fitting store sends link) (outcome (answerOf es) (placesOf es) (replicate (length sends) 0)) (outcome Misfit sends link)
 
 -- ---- for the functions below
 

@@ -6,7 +6,7 @@ ghost use lib.ListN.{length};
 ghost use Rattle.paper.specs.Matching.{lengthSent, matchedOf, isSend, isReceive, matchedCount, unreceivedCount};
 ghost use Rattle.store.specs.Layout.{entryFrom, entriesIn};
 ghost use Rattle.chains.specs.Places.{placesOf};
-ghost use Rattle.message.specs.Outcome.{Outcome, matching, answerOf, stopAt, one};
+ghost use Rattle.message.specs.Outcome.{outcome, matching, answerOf, stopAt, one};
 use paper::Fault;
 use paper::Role;
 use paper::Stop;
@@ -138,7 +138,7 @@ fn answered(store: &[i64], sends: &[usize]) -> Matching
 // it has none, or is no receive, the number of records. The links are room for the work, as many as the places, and come back
 // cleared.
 pub fn match_messages(store: &[i64], sends: &mut [usize], link: &mut [usize]) -> Matching
-    ensures { λ r. ⌜ _≡_ {A = Outcome} (record { answer = r; sends = now (sends .exit); link = now (link .exit) }) (matching (now (store .entry)) (now (sends .entry)) (now (link .entry))) ⌝ }
+    ensures { λ r. ⌜ outcome r (now (sends .exit)) (now (link .exit)) ≡ matching (now (store .entry)) (now (sends .entry)) (now (link .entry)) ⌝ }
 {
     if link.len() != sends.len() {
         return Matching::Misfit;

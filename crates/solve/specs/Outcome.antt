@@ -24,12 +24,15 @@ pub record Outcome : Type 0 where
   pub answer : Solved
   pub times : List ℤ
 
+abbrev pub solution : Solved → List ℤ → Outcome
+solution answer times = record { answer = answer; times = times }
+
 unfoldable pub onSettled : List Entry → paper.Settled → Outcome
-onSettled es impossible = record { answer = Impossible; times = originalsOf es }
-onSettled es (settled rounds times) = record { answer = Times (matchedCount es) (unreceivedCount es) rounds; times = times }
+onSettled es impossible = solution Impossible (originalsOf es)
+onSettled es (settled rounds times) = solution (Times (matchedCount es) (unreceivedCount es) rounds) times
 
 unfoldable pub onMatched : List ℕ → List Entry → List ℤ → Stop → Outcome
-onMatched table es lent (At fault line) = record { answer = Refused fault line; times = lent }
+onMatched table es lent (At fault line) = solution (Refused fault line) lent
 onMatched table es lent End = onSettled es (paper.settle (waitsOf table es))
 
 -- as many of the store's records as times are lent
@@ -37,7 +40,7 @@ unfoldable pub solved : List ℤ → List ℕ → List ℤ → Outcome
 solved store table lent =
     let es = entriesIn store (length lent) in
     cond (leb (length lent) 2048 && leb (length lent) (length store / 7)) (onMatched table es lent (matchedOf es))
-    (record { answer = Misfit; times = lent })
+    (solution Misfit lent)
 
 -- ---- for the functions below
 

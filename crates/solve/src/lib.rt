@@ -7,7 +7,7 @@ ghost use Rattle.paper.specs.Clock as paper;
 ghost use Rattle.store.specs.Layout.{entriesIn};
 ghost use Rattle.clock.specs.Promise.{outcome, answered};
 ghost use Rattle.waits.specs.Tables.{originalsOf};
-ghost use Rattle.solve.specs.Outcome.{Outcome, solved, settledBy, Tables, Sent};
+ghost use Rattle.solve.specs.Outcome.{solution, solved, settledBy, Tables, Sent};
 use clock::Settled;
 use message::Matching;
 use paper::Fault;
@@ -87,7 +87,7 @@ fn settle_times(store: &[i64], table: &[u32], sends: &[usize], times: &mut [i64]
 
 // The times of the first records of the store, as many as times are lent.
 pub fn solve(store: &[i64], table: &[u32], times: &mut [i64]) -> Solved
-    ensures { λ r. ⌜ _≡_ {A = Outcome} (record { answer = r; times = now (times .exit) }) (solved (now (store .entry)) (now (table .entry)) (now (times .entry))) ⌝ }
+    ensures { λ r. ⌜ solution r (now (times .exit)) ≡ solved (now (store .entry)) (now (table .entry)) (now (times .entry)) ⌝ }
 {
     let n = times.len();
     if MOST < n {

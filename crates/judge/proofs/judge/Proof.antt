@@ -1,7 +1,7 @@
 -- `judge::judge` meets its contract.
 use borrow.Author.Needs.{needs}
 use mathlib.Core.Path.{_≡_, sym, _∙_}
-use Rattle.judge.proofs.Answers.{strict, lenient, no-choice}
+use Rattle.judge.proofs.Choosing.{strict, lenient, no-choice}
 use Rattle.judge.proofs.judge.Statement.{statement}
 use Rattle.judge.proofs.judge.Tie as tie
 

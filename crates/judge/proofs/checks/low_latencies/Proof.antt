@@ -4,7 +4,7 @@ use mathlib.Core.Path.{_≡_, refl, sym, ap, _∙_}
 use borrow.Author.Needs.{needs}
 use lib.ListN.{length, drop}
 use Rattle.paper.specs.Answer.{lowLatencies}
-use Rattle.judge.proofs.Answers.{low-on, low-not, low-end}
+use Rattle.judge.proofs.Choosing.{low-on, low-not, low-end}
 use Rattle.judge.proofs.checks.low_latencies.Statement.{statement}
 use Rattle.judge.proofs.checks.low_latencies.Tie as tie
 

@@ -1,6 +1,6 @@
 -- `judge::finish::answer_for` meets its contract.
 use borrow.Author.Needs.{needs}
-use Rattle.judge.specs.Answers.{answerFor}
+use Rattle.judge.specs.Call.{answerFor}
 use Rattle.judge.proofs.finish.answer_for.Statement.{statement}
 use Rattle.judge.proofs.finish.answer_for.Tie as tie
 

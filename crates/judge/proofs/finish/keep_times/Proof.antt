@@ -1,6 +1,6 @@
 -- `judge::finish::keep_times` meets its contract.
 use borrow.Author.Needs.{needs}
-use Rattle.judge.specs.Answers.{timesAfter}
+use Rattle.judge.specs.Call.{timesAfter}
 use Rattle.judge.proofs.Copying.{kept}
 use Rattle.judge.proofs.finish.keep_times.Statement.{statement}
 use Rattle.judge.proofs.finish.keep_times.Tie as tie

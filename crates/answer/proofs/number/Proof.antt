@@ -1,9 +1,9 @@
--- `judge::answer::number` meets its contract.
+-- `answer::number` meets its contract.
 use borrow.Author.Needs.{needs}
 use mathlib.Core.Path.{_≡_, refl, sym, ap, _∙_}
 use Rattle.paper.specs.Numbers.{numberOf}
-use Rattle.judge.proofs.answer.number.Statement.{statement}
-use Rattle.judge.proofs.answer.number.Tie as tie
+use Rattle.answer.proofs.number.Statement.{statement}
+use Rattle.answer.proofs.number.Tie as tie
 
 enum-told : tie.Need-enum-told
 enum-told c = search needs

@@ -1,9 +1,9 @@
--- `judge::answer::refused` meets its contract.
+-- `answer::refused` meets its contract.
 use borrow.Author.Needs.{needs}
 use mathlib.Core.Path.{_≡_, refl, sym, ap, _∙_}
-use Rattle.judge.specs.Answers.{refusal}
-use Rattle.judge.proofs.answer.refused.Statement.{statement}
-use Rattle.judge.proofs.answer.refused.Tie as tie
+use Rattle.answer.specs.Answers.{refusal}
+use Rattle.answer.proofs.refused.Statement.{statement}
+use Rattle.answer.proofs.refused.Tie as tie
 
 number-requires : tie.Need-number-requires
 number-requires c κs = search needs

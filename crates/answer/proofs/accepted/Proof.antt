@@ -1,9 +1,9 @@
--- `judge::answer::accepted` meets its contract.
+-- `answer::accepted` meets its contract.
 use borrow.Author.Needs.{needs}
 use mathlib.Core.Path.{_≡_, refl, sym, ap, _∙_}
-use Rattle.judge.specs.Answers.{acceptance}
-use Rattle.judge.proofs.answer.accepted.Statement.{statement}
-use Rattle.judge.proofs.answer.accepted.Tie as tie
+use Rattle.answer.specs.Answers.{acceptance}
+use Rattle.answer.proofs.accepted.Statement.{statement}
+use Rattle.answer.proofs.accepted.Tie as tie
 
 verdict-requires : tie.Need-verdict-requires
 verdict-requires c κs = search needs

@@ -1,7 +1,7 @@
--- `judge::answer::verdict` meets its contract.
-use Rattle.judge.proofs.Answers.{verdict-none, verdict-moved, verdict-still}
-use Rattle.judge.proofs.answer.verdict.Statement.{statement}
-use Rattle.judge.proofs.answer.verdict.Tie as tie
+-- `answer::verdict` meets its contract.
+use Rattle.answer.proofs.Verdicts.{verdict-none, verdict-moved, verdict-still}
+use Rattle.answer.proofs.verdict.Statement.{statement}
+use Rattle.answer.proofs.verdict.Tie as tie
 
 returns : tie.Need-returns
 returns c = verdict-none _ _ (c .if1 .taken)

@@ -1,4 +1,4 @@
--- The verdict, the latencies looked through, and the choice.
+-- The latencies looked through, and the choice.
 use Prim.Native.Nat.{ℕ, zero, suc, _+_, _≤_, _<_}
 use mathlib.Core.Path.{_≡_, refl, sym, ap, _∙_}
 use mathlib.Core.List.{List, [], _∷_}
@@ -17,30 +17,8 @@ use Rattle.paper.specs.declared.Choice.{Choice}
 use Rattle.paper.specs.declared.Choice.the-variants.{Strict, Lenient}
 use Rattle.paper.specs.declared.Fault.{Fault}
 use Rattle.paper.specs.declared.Fault.the-variants as Fault
-use Rattle.judge.specs.Answers.{refusal, verdictBy, chosen, given}
-
--- ---- the verdict
-
-module _ (m k : ℕ) where
-  pub verdict-none : m ≡ 0 → 3 ≡ verdictBy m k
-  unfolding verdictBy verdictOf
-  verdict-none e = rw e
-
-  pub verdict-moved : (m ≡ 0 → ⊥) → 0 < k → 2 ≡ verdictBy m k
-  unfolding verdictBy verdictOf
-  verdict-moved n h = rw (lt-ltb 0 k h) (go m n)
-    where
-      go : (m : ℕ) → (m ≡ 0 → ⊥) → 2 ≡ verdictOf m true
-      go zero n = absurd (n refl)
-      go (suc m) n = refl
-
-  pub verdict-still : (m ≡ 0 → ⊥) → k ≤ 0 → 1 ≡ verdictBy m k
-  unfolding verdictBy verdictOf
-  verdict-still n h = rw (le-ltb 0 k h) (go m n)
-    where
-      go : (m : ℕ) → (m ≡ 0 → ⊥) → 1 ≡ verdictOf m false
-      go zero n = absurd (n refl)
-      go (suc m) n = refl
+use Rattle.answer.specs.Answers.{refusal, verdictBy}
+use Rattle.judge.specs.Call.{chosen, given}
 
 -- ---- "each at most 1,000,000"
 

@@ -1,12 +1,12 @@
-// The answer that a call comes to.
+// The answer that a call comes to: a refusal by its number and line, or acceptance with its verdict and its counts.
 ghost use mathlib.Core.Path.{_≡_};
 ghost use Rattle.paper.specs.Numbers.{numberOf};
-ghost use Rattle.judge.specs.Answers.{refusal, acceptance, verdictBy};
+ghost use Rattle.answer.specs.Answers.{refusal, acceptance, verdictBy};
 use paper::Answer;
 use paper::Fault;
 
 // What is counted in an accepted trace.
-pub(crate) struct Counts {
+pub struct Counts {
     pub listed: usize,
     pub passed: usize,
     pub matched: usize,
@@ -38,7 +38,7 @@ fn number(fault: Fault) -> u64
 }
 
 // "Every refusal returns its number and line, verdict 0 and all counts 0"
-pub(crate) fn refused(fault: Fault, line: usize) -> Answer
+pub fn refused(fault: Fault, line: usize) -> Answer
     ensures { λ r. ⌜ r ≡ refusal fault line ⌝ }
 {
     Answer {
@@ -67,7 +67,7 @@ fn verdict(matched: usize, rounds: usize) -> u64
     1
 }
 
-pub(crate) fn accepted(counts: Counts, written: usize) -> Answer
+pub fn accepted(counts: Counts, written: usize) -> Answer
     ensures { λ r. ⌜ r ≡ acceptance counts written ⌝ }
 {
     Answer {

@@ -1,0 +1,41 @@
+-- The answers in parts: document 01's definitions have them within the outcome of a whole call.
+use Prim.Native.Nat.{ℕ}
+use lib.Dec.{ltb}
+use Rattle.paper.specs.Numbers.{numberOf}
+use Rattle.paper.specs.Answer.{verdictOf}
+use Rattle.paper.specs.declared.Fault.{Fault}
+use Rattle.paper.specs.declared.Answer.{Answer}
+use Rattle.answer.specs.declared.Counts.{Counts}
+
+-- "Every refusal returns its number and line, verdict 0 and all counts 0"
+unfoldable pub refusal : Fault → ℕ → Answer
+refusal fault line =
+    record {
+      number = numberOf fault;
+      line = line;
+      verdict = 0;
+      listed = 0;
+      passed = 0;
+      matched = 0;
+      unreceived = 0;
+      rounds = 0;
+      written = 0;
+    }
+
+-- a time moved exactly if there was a round
+unfoldable pub verdictBy : ℕ → ℕ → ℕ
+verdictBy matched rounds = verdictOf matched (ltb 0 rounds)
+
+unfoldable pub acceptance : Counts → ℕ → Answer
+acceptance c written =
+    record {
+      number = 0;
+      line = 0;
+      verdict = verdictBy (c .matched) (c .rounds);
+      listed = c .listed;
+      passed = c .passed;
+      matched = c .matched;
+      unreceived = c .unreceived;
+      rounds = c .rounds;
+      written = written;
+    }
