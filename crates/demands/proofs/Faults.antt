@@ -32,7 +32,7 @@ use Rattle.paper.specs.declared.Standing.{Standing}
 use Rattle.paper.specs.declared.Standing.the-variants as Standing
 use Rattle.paper.specs.declared.Stop.{Stop}
 use Rattle.paper.specs.declared.Stop.the-variants.{End, At}
-use Rattle.form.proofs.Tests.{never}
+use Rattle.forms.proofs.Tests.{never}
 use Rattle.matching.proofs.Belong.{roleAt}
 use Rattle.matching.proofs.Calls.{at-first-call}
 

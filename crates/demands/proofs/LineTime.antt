@@ -12,8 +12,8 @@ use Rattle.paper.specs.declared.Field.{Field}
 use Rattle.paper.specs.declared.Field.the-variants.{Good, Bad}
 use Rattle.paper.specs.declared.Line.the-variants.{Listed}
 use Rattle.paper.specs.declared.Record.{Record}
-use Rattle.form.proofs.Tests.{never}
-use Rattle.form.proofs.Goods.{time-in-range}
+use Rattle.forms.proofs.Tests.{never}
+use Rattle.forms.proofs.Goods.{time-in-range}
 use Rattle.reading.specs.Retimed.{begunAt, lineAt, recordAt}
 use Rattle.reading.proofs.Stamp.{has-six, begun-at}
 

@@ -15,7 +15,7 @@ use Rattle.paper.specs.declared.Choice.{Choice}
 use Rattle.paper.specs.declared.Entry.{Entry}
 use Rattle.paper.specs.declared.Line.the-variants.{Listed}
 use Rattle.paper.specs.declared.Record.{Record}
-use Rattle.form.proofs.Back.{there-and-back}
+use Rattle.forms.proofs.Back.{there-and-back}
 use Rattle.matching.proofs.Times.{untimed, Alike}
 use Rattle.reading.specs.Retimed.{recordAt}
 use Rattle.reading.proofs.Stamp.{listed-stamped}

@@ -10,10 +10,10 @@ use Rattle.paper.specs.Written.{withStamp}
 use Rattle.paper.specs.declared.Choice.{Choice}
 use Rattle.paper.specs.declared.Line.the-variants.{Listed}
 use Rattle.paper.specs.declared.Record.{Record}
-use Rattle.form.proofs.Tests.{both, never}
-use Rattle.form.specs.Free.{Free, foreign}
-use Rattle.form.proofs.Back.{shown-free}
-use Rattle.form.proofs.Foreign.{free-append}
+use Rattle.forms.proofs.Tests.{both, never}
+use Rattle.forms.specs.Free.{Free, foreign}
+use Rattle.forms.proofs.Back.{shown-free}
+use Rattle.forms.proofs.Foreign.{free-append}
 use Rattle.reading.proofs.Fields.{field-of, after-of, field-free, field-joined}
 use Rattle.reading.proofs.Stamp.{has-six}
 use Rattle.demands.specs.Demand2.{Restamped}

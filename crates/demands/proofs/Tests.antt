@@ -9,7 +9,7 @@ use lib.ListN.{length, getD}
 use lib.Dec.{leb}
 use borrow.Author.Tests.{eqb-true, eq-eqb, ne-eqb, leb-true, le-leb}
 use Rattle.paper.specs.Answer.{Inputs, choiceOf, rightLengths, lowLatencies}
-use Rattle.form.proofs.Tests.{both, never}
+use Rattle.forms.proofs.Tests.{both, never}
 use Rattle.demands.specs.Steps.{RightLengths, LowLatencies, ShortTrace}
 
 -- a test tells a fact

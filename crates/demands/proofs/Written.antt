@@ -16,7 +16,7 @@ use Rattle.paper.specs.declared.Choice.{Choice}
 use Rattle.paper.specs.declared.Entry.{Entry}
 use Rattle.paper.specs.declared.Line.the-variants.{Passed, Listed}
 use Rattle.paper.specs.declared.Record.{Record}
-use Rattle.form.specs.Free.{Free}
+use Rattle.forms.specs.Free.{Free}
 use Rattle.reading.proofs.Along.{Reads, ends, passes, lists}
 use Rattle.demands.specs.Demand2.{SameButStamps, end, passed-over, stamped}
 use Rattle.demands.proofs.Stamps.{no-space, no-end, restamped, restamped-free}

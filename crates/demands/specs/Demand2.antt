@@ -20,7 +20,7 @@ use Rattle.paper.specs.declared.Line.the-variants.{Passed, Listed}
 use Rattle.paper.specs.declared.Message.{Message}
 use Rattle.paper.specs.declared.Record.{Record}
 use Rattle.paper.specs.declared.Role.the-variants.{Send, Receive}
-use Rattle.form.specs.Free.{Free}
+use Rattle.forms.specs.Free.{Free}
 use Rattle.demands.specs.Parts.{number, verdict, listed, passed, matched, unreceived, rounds, written, corrected, writtenTrace}
 use Rattle.demands.specs.Steps.{Chosen, entries, processor, role, Matched}
 use Rattle.demands.specs.Accepted.{Moved, AcceptedAnswer}

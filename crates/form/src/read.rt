@@ -3,8 +3,8 @@ ghost use mathlib.Core.Path.{_≡_};
 ghost use Prim.Native.Nat.{_≤_, _<_, _^_};
 ghost use lib.ListN.{length};
 ghost use Rattle.paper.specs.Forms.{hasMinus, signed, digitsFrom, wholeSize, timeSize};
-ghost use Rattle.form.specs.Sizes.{number, AtMost, wholePart};
-use crate::Size;
+ghost use Rattle.forms.specs.Sizes.{number, AtMost, wholePart};
+use forms::Size;
 use paper::Field;
 
 fn wide(b: u8) -> u64

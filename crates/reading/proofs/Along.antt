@@ -18,7 +18,7 @@ use Rattle.paper.specs.declared.Line.{Line}
 use Rattle.paper.specs.declared.Line.the-variants.{Refused, Passed, Listed}
 use Rattle.paper.specs.declared.Record.{Record}
 use Rattle.paper.specs.declared.Stop.the-variants.{End}
-use Rattle.form.proofs.Tests.{never}
+use Rattle.forms.proofs.Tests.{never}
 
 not-below : (a b : ℤ) → b ≤ℤ a → ltZ a b ≡ false
 not-below a b h = go (ltZ a b) refl

@@ -11,7 +11,7 @@ use lib.Dec.{ltb, eqb}
 use borrow.Author.Tests.{lt-ltb, ltb-true, eq-eqb, ne-eqb, eqb-true, eqb-false}
 use Rattle.bytes.specs.Bytes.{indexOf, indexAfter}
 use Rattle.paper.specs.Line.{field, after, goesOn, rest}
-use Rattle.form.specs.Free.{Free}
+use Rattle.forms.specs.Free.{Free}
 
 -- ---- the first b
 

@@ -25,7 +25,7 @@ use Rattle.paper.specs.declared.Fault.{Fault}
 use Rattle.paper.specs.declared.Fault.the-variants as Fault
 use Rattle.paper.specs.declared.Line.{Line}
 use Rattle.paper.specs.declared.Line.the-variants.{Refused, Passed, Listed}
-use Rattle.form.specs.Free.{Free}
+use Rattle.forms.specs.Free.{Free}
 use Rattle.reading.specs.Retimed.{headAt, begunAt, recordAt, lineAt}
 use Rattle.reading.proofs.Fields.{field-of, after-of, goes-on, rest-of, field-free}
 

@@ -31,7 +31,7 @@ use Rattle.paper.specs.declared.Standing.{Standing}
 use Rattle.paper.specs.declared.Standing.the-variants as Standing
 use Rattle.paper.specs.declared.Line.{Line}
 use Rattle.paper.specs.declared.Line.the-variants.{Refused, Passed, Listed}
-use Rattle.form.proofs.Goods.{whole-in-range}
+use Rattle.forms.proofs.Goods.{whole-in-range}
 use Rattle.reading.specs.Tidy.{TidyMessage, TidyRole, TidyRecord, TidyData, TidyLine}
 
 -- the two cases of a test

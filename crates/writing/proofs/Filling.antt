@@ -10,7 +10,7 @@ use lib.IntN.{ℤ}
 use Rattle.bytes.specs.Bytes.{indexOf, slice}
 use Rattle.paper.specs.Reading.{linesOf}
 use Rattle.paper.specs.declared.Entry.{Entry}
-use Rattle.form.proofs.Stores.{sets-append}
+use Rattle.shown.proofs.Stores.{sets-append}
 use Rattle.writing.specs.ByLine.{stampFor, lineWith, used, writtenAt}
 use Rattle.writing.specs.Inner.{stampOf, Stored}
 use Rattle.writing.specs.declared.stamp.Stamp.{Stamp}

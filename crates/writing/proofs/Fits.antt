@@ -4,7 +4,7 @@ use mathlib.Core.Path.{_≡_, refl, sym, _∙_}
 use mathlib.Core.Bool.{true, Bool, false, cond}
 use borrow.Author.Tests.{le-leb, lt-leb, leb-true, leb-false}
 use lib.Dec.{leb}
-use Rattle.form.proofs.Tests.{never}
+use Rattle.forms.proofs.Tests.{never}
 use Rattle.writing.specs.Inner.{fitOf}
 use Rattle.writing.specs.declared.measure.Fit.the-variants.{Of, TooLong}
 use Rattle.writing.specs.declared.measure.Fit.{Fit}

@@ -10,11 +10,11 @@ use lib.IntN.{ℤ, natAbs}
 use Rattle.paper.specs.Forms.{timeShown}
 use Rattle.paper.specs.Line.{field, after}
 use Rattle.paper.specs.Written.{withStamp}
-use Rattle.form.specs.Writes.{putOf, timePut, TimePut}
-use Rattle.form.specs.declared.Put.{Put}
-use Rattle.form.specs.declared.Put.the-variants.{At}
-use Rattle.form.proofs.Stores.{sets-append}
-use Rattle.form.proofs.Outcomes.{put-at}
+use Rattle.shown.specs.Writes.{putOf, timePut, TimePut}
+use Rattle.shown.specs.declared.Put.{Put}
+use Rattle.shown.specs.declared.Put.the-variants.{At}
+use Rattle.shown.proofs.Stores.{sets-append}
+use Rattle.shown.proofs.Outcomes.{put-at}
 use Rattle.writing.specs.Cuts.{Around}
 use Rattle.writing.specs.Inner.{Stored}
 use Rattle.writing.specs.declared.cut.Cut.{Cut}

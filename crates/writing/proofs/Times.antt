@@ -13,9 +13,9 @@ use lib.IntN.{ℤ, pos, natAbs}
 use lib.Dec.{leb, eqb}
 use Rattle.paper.specs.Forms.{timeShown}
 use Rattle.paper.specs.declared.Entry.{Entry}
-use Rattle.form.specs.Writes.{shownLength}
-use Rattle.form.proofs.Tests.{both}
-use Rattle.form.proofs.Back.{shown-long, shown-short}
+use Rattle.shown.specs.Writes.{shownLength}
+use Rattle.forms.proofs.Tests.{both}
+use Rattle.forms.proofs.Back.{shown-long, shown-short}
 use Rattle.writing.specs.ByLine.{stampFor}
 use Rattle.writing.specs.Outcome.{allShown}
 use Rattle.writing.specs.Inner.{Shown}

@@ -25,7 +25,7 @@ pub(crate) fn all_shown(times: &[i64]) -> bool
 {
     let mut k: usize = 0;
     while k < times.len() {
-        if form::shown_length(times[k]) == 0 {
+        if shown::shown_length(times[k]) == 0 {
             return false;
         }
         k += 1;
@@ -38,7 +38,7 @@ fn stamped_length(l: &[u8], time: i64) -> usize
     ensures { λ r. ⌜ r ≡ length (withStamp (timeShown time) (now (l .entry))) ⌝ }
 {
     let c = cut::cut_line(l);
-    let shown = form::shown_length(time);
+    let shown = shown::shown_length(time);
     c.head + (c.to - c.from) + (l.len() - c.rest) + shown + 3
 }
 

@@ -11,7 +11,7 @@ ghost use Rattle.writing.specs.ByLine.{lineWith};
 ghost use Rattle.writing.specs.Inner.{stampOf, Shown, Stored};
 use crate::cut;
 use crate::stamp::Stamp;
-use form::Put;
+use shown::Put;
 
 pub(crate) fn put(room: &mut [u8], at: usize, word: &[u8])
     requires { ⌜ at + length (now word) ≤ length (now room) ⌝ }
@@ -36,7 +36,7 @@ fn put_time(room: &mut [u8], at: usize, time: i64) -> usize
     requires { ⌜ (natAbs time ≤ 999999999999999) × (at + length (timeShown time) < length (now room)) ⌝ }
     ensures { λ r. ⌜ Stored (now (room .entry)) at (timeShown time ++ (32 ∷ [])) r (now (room .exit)) ⌝ }
 {
-    let Put::At(end) = form::write_time(room, at, time) else {
+    let Put::At(end) = shown::write_time(room, at, time) else {
         return at;
     };
     room[end] = 32;

@@ -1,8 +1,8 @@
 -- The two ways of a reader, at the form of a time.
 use borrow.Author.Needs.{needs}
 use Rattle.paper.specs.Forms.{timeSize, timeOf}
-use Rattle.form.proofs.Signs.{minus-byte, behind-minus, behind-none}
-use Rattle.form.proofs.Times.{time-range}
+use Rattle.forms.proofs.Signs.{minus-byte, behind-minus, behind-none}
+use Rattle.forms.proofs.Times.{time-range}
 use Rattle.form.proofs.read_time.Statement.{statement}
 use Rattle.form.proofs.read_time.Tie as tie
 

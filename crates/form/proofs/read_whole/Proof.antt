@@ -1,8 +1,8 @@
 -- The two ways of a reader, at the form of a whole number.
 use borrow.Author.Needs.{needs}
 use Rattle.paper.specs.Forms.{wholeSize, wholeOf}
-use Rattle.form.proofs.Signs.{minus-byte, behind-minus, behind-none}
-use Rattle.form.proofs.Wholes.{whole-small}
+use Rattle.forms.proofs.Signs.{minus-byte, behind-minus, behind-none}
+use Rattle.forms.proofs.Wholes.{whole-small}
 use Rattle.form.proofs.read_whole.Statement.{statement}
 use Rattle.form.proofs.read_whole.Tie as tie
 

@@ -2,7 +2,7 @@
 use mathlib.Core.Path.{refl}
 use borrow.Author.Needs.{needs}
 use Rattle.paper.specs.Forms.{hasMinus}
-use Rattle.form.proofs.Signs.{no-byte}
+use Rattle.forms.proofs.Signs.{no-byte}
 use Rattle.form.proofs.read.has_minus.Statement.{statement}
 use Rattle.form.proofs.read.has_minus.Tie as tie
 

@@ -7,8 +7,8 @@ use native.Mathlib.Omega.{arith}
 use borrow.Author.Needs.{needs}
 use lib.ListN.{length, drop, drop-of-length-le}
 use Rattle.paper.specs.Forms.{digitsFrom}
-use Rattle.form.specs.Sizes.{number}
-use Rattle.form.proofs.Runs.{cap, grows, too-low, too-high, good}
+use Rattle.forms.specs.Sizes.{number}
+use Rattle.forms.proofs.Runs.{cap, grows, too-low, too-high, good}
 use Rattle.form.proofs.read.read_digits.Statement.{statement}
 use Rattle.form.proofs.read.read_digits.Tie as tie
 

@@ -1,8 +1,8 @@
 -- A law of `timeSize` for each way out; the needs between them are of lengths alone.
 use mathlib.Core.Path.{ap, sym, _∙_}
 use borrow.Author.Needs.{needs}
-use Rattle.form.specs.Sizes.{number}
-use Rattle.form.proofs.Times.{time-short, time-long, pointless, whole-bad, whole-below, whole-good}
+use Rattle.forms.specs.Sizes.{number}
+use Rattle.forms.proofs.Times.{time-short, time-long, pointless, whole-bad, whole-below, whole-good}
 use Rattle.form.proofs.read.time_size.Statement.{statement}
 use Rattle.form.proofs.read.time_size.Tie as tie
 

@@ -1,8 +1,8 @@
 -- A law of `wholePart` for each of the four ways.
 use mathlib.Core.Path.{sym, _∙_}
 use borrow.Author.Needs.{needs}
-use Rattle.form.specs.Sizes.{number}
-use Rattle.form.proofs.Wholes.{part-empty, part-led, part-zero, part-zeros}
+use Rattle.forms.specs.Sizes.{number}
+use Rattle.forms.proofs.Wholes.{part-empty, part-led, part-zero, part-zeros}
 use Rattle.form.proofs.read.whole_part.Statement.{statement}
 use Rattle.form.proofs.read.whole_part.Tie as tie
 

@@ -1,8 +1,8 @@
 -- The length says whether the number is in range.
 use mathlib.Core.Path.{sym, _∙_}
 use borrow.Author.Needs.{needs}
-use Rattle.form.specs.Sizes.{number}
-use Rattle.form.proofs.Wholes.{whole-long, whole-short}
+use Rattle.forms.specs.Sizes.{number}
+use Rattle.forms.proofs.Wholes.{whole-long, whole-short}
 use Rattle.form.proofs.read.whole_size.Statement.{statement}
 use Rattle.form.proofs.read.whole_size.Tie as tie
 

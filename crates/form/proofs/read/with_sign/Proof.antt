@@ -7,9 +7,9 @@ use lib.IntN.{pos}
 use mir.Syntax.{w64}
 use mir.Facts.{toZ-pos}
 use Rattle.paper.specs.Forms.{signed}
-use Rattle.form.specs.Sizes.{number, AtMost}
-use Rattle.form.proofs.Machine.{sized, minus-fits, minus-back}
-use Rattle.form.proofs.Signs.{never-good, minus-good}
+use Rattle.forms.specs.Sizes.{number, AtMost}
+use Rattle.forms.proofs.Machine.{sized, minus-fits, minus-back}
+use Rattle.forms.proofs.Signs.{never-good, minus-good}
 use Rattle.form.proofs.read.with_sign.Statement.{statement}
 use Rattle.form.proofs.read.with_sign.Tie as tie
 

@@ -5,7 +5,7 @@ use borrow.Author.Needs.{needs}
 use mir.Syntax.{w64}
 use mir.Val.{toZ, ofZ}
 use Rattle.paper.specs.Forms.{timeShown}
-use Rattle.form.proofs.Back.{shown-short}
+use Rattle.forms.proofs.Back.{shown-short}
 use Rattle.writing.proofs.Cuts.{stamped-short}
 use Rattle.writing.proofs.Stamps.{new-shown, new-line, kept-line}
 use Rattle.writing.proofs.measure.line_length.Statement.{statement}

@@ -1,0 +1,3 @@
+pub mod Stores
+pub mod Puts
+pub mod Outcomes
