@@ -6,7 +6,7 @@ use native.Mathlib.Decide.{decLt}
 use native.Mathlib.Numerals.{add-one}
 use mathlib.Core.Path.{_≡_, refl, sym, ap, _∙_}
 use mathlib.Core.Bool.{Bool, true, false, cond}
-use mathlib.Core.Option.{Option, none, some}
+use mathlib.Core.Option.{Option, none, some, Option·getD}
 use mathlib.Core.List.{List}
 use borrow.Author.Tests.{lt-ltb, le-ltb}
 use lib.ListN.{length, getD, take}
@@ -22,7 +22,6 @@ use Rattle.side.specs.declared.Key.{Key}
 use Rattle.side.specs.Sides.{keyOf, sideAt, bucketOf, sendUnder, receiveUnder}
 use Rattle.side.proofs.Buckets.{no-send-in, send-in}
 use Rattle.side.proofs.Sends.{sendBy, send-for-side, receive-send}
-use Rattle.chains.specs.Places.{place}
 use Rattle.chains.specs.Chains.{First, Last, sendIn, Forward, Ready, startFrom, sendUnderAt}
 
 -- ---- first and k-th
@@ -38,22 +37,22 @@ first-through p q n i j s hidden f g =
     go k a b (no l) = g .none k (omega arith) b
 
 -- the first from a place on is the one with as many before it as before that place
-first-place : (p : ℕ → Bool) (n k i s : ℕ) (o : Option ℕ) → Answers p n k o → count p i ≡ k → First p n i s → s ≡ place n o
+first-place : (p : ℕ → Bool) (n k i s : ℕ) (o : Option ℕ) → Answers p n k o → count p i ≡ k → First p n i s → s ≡ Option·getD o n
 first-place p n k i s o a e f = go (decLt s n)
   where
     still : count p s ≡ k
     still = count-still p i s (f .from) (f .none) ∙ e
 
-    go : Dec (s < n) → s ≡ place n o
-    go (yes l) = sym (ap (place n) (a .whole s (record { within = l; passes = f .here l; rank = still })))
+    go : Dec (s < n) → s ≡ Option·getD o n
+    go (yes l) = sym (ap (λ (o : Option ℕ). Option·getD o n) (a .whole s (record { within = l; passes = f .here l; rank = still })))
     go (no l) =
         let z : s ≡ n = omega (arith, f .upto) in
         let all : count p n ≡ k = rw z at still in
-        z ∙ sym (ap (place n) (no-more p n k o a (omega arith)))
+        z ∙ sym (ap (λ (o : Option ℕ). Option·getD o n) (no-more p n k o a (omega arith)))
 
 -- none is left behind where the one before was none
-none-behind : (p : ℕ → Bool) (n k : ℕ) (o r : Option ℕ) → Answers p n k o → Answers p n (suc k) r → o ≡ none → n ≡ place n r
-none-behind p n k o r a b e = sym (ap (place n) (no-more p n (suc k) r b (omega (arith, none-left p n k o a e))))
+none-behind : (p : ℕ → Bool) (n k : ℕ) (o r : Option ℕ) → Answers p n k o → Answers p n (suc k) r → o ≡ none → n ≡ Option·getD r n
+none-behind p n k o r a b e = sym (ap (λ (o : Option ℕ). Option·getD o n) (no-more p n (suc k) r b (omega (arith, none-left p n k o a e))))
 
 -- ---- the entries of a store
 
@@ -84,7 +83,7 @@ module _ (l : List ℤ) (n : ℕ) (key : Key) where
 
   -- behind so many receives, the send is the one with so many before it
   under-at : (i k : ℕ) → i ≤ n → count received i ≡ k
-      → sendUnderAt (entriesIn l n) (keyOf key) i ≡ place n (sendPlace (keyOf key) k (entriesIn l n))
+      → sendUnderAt (entriesIn l n) (keyOf key) i ≡ Option·getD (sendPlace (keyOf key) k (entriesIn l n)) n
   unfolding sendUnderAt
   under-at i k h e = rw (length-entries l n, ranked i h, e)
 
@@ -166,13 +165,13 @@ module _ (l : List ℤ) (sends link : List ℕ) (key : Key) (head from : ℕ) (h
         count-still (received l n key) (suc q) from (f .upto) (λ k a b. sym (received-is l n key k (omega (arith, upto))) ∙ f .none k a b)
         ∙ count-yes (received l n key) q (sym (received-is l n key q low) ∙ f .here q refl)
 
-    its-place : getD sends q 0 ≡ place n (sendPlace (keyOf key) (count (received l n key) q) es)
+    its-place : getD sends q 0 ≡ Option·getD (sendPlace (keyOf key) (count (received l n key) q) es) n
     its-place =
         h .placed q (f .upto)
-        ∙ ap (place n) (send-side l n q low ∙ receive-send l es key q (f .here q refl) ∙ ap (λ (k : ℕ). sendPlace (keyOf key) k es) (ranked l n key q (omega (arith, low))))
+        ∙ ap (λ (o : Option ℕ). Option·getD o n) (send-side l n q low ∙ receive-send l es key q (f .here q refl) ∙ ap (λ (k : ℕ). sendPlace (keyOf key) k es) (ranked l n key q (omega (arith, low))))
 
     starts-behind : (o : Option ℕ) → sendPlace (keyOf key) (count (received l n key) q) es ≡ o
-        → Starts (cond (ltb (place n o) n) (getD link (place n o) 0) n)
+        → Starts (cond (ltb (Option·getD o n) n) (getD link (Option·getD o n) 0) n)
     starts-behind none e = rw (le-ltb n n (omega arith)) (starts-none (count (received l n key) q) rank-behind e)
     starts-behind (some j) e =
         let a = answers l n key (count (received l n key) q) .sound j e in

@@ -3,6 +3,7 @@ use Prim.Native.Nat.{ℕ}
 use native.Mathlib.Omega.{arith}
 use mathlib.Core.Path.{_≡_, sym, ap, _∙_}
 use mathlib.Core.List.{List, _++_, append-nil}
+use mathlib.Core.Option.{Option·getD}
 use borrow.Author.Tests.{eq-eqb, ne-eqb}
 use lib.ListN.{length, drop, replicate, drop-of-length-le}
 use lib.Seq.{ext-getD}
@@ -12,7 +13,7 @@ use Rattle.paper.specs.Matching.{sendOf}
 use Rattle.store.specs.Layout.{entriesIn}
 use Rattle.store.proofs.Listed.{length-listed, listed-at}
 use Rattle.store.proofs.Laws.{length-entries}
-use Rattle.chains.specs.Places.{place, placesOf, Places, found}
+use Rattle.chains.specs.Places.{placesOf, Places, found}
 use Rattle.chains.specs.Chains.{Placed}
 use Rattle.chains.proofs.Places.{length-places}
 
@@ -26,8 +27,8 @@ pub all-placed : (l : List ℤ) (n : ℕ) (sends : List ℕ) → length sends �
 unfolding placesOf
 all-placed l n sends size h =
     rw (length-entries l n)
-    (ext-getD 0 sends (listed n (λ i. place n (sendOf (entriesIn l n) i))) (size ∙ sym (length-listed n (λ i. place n (sendOf (entriesIn l n) i))))
-    (λ i m. h i (omega arith) ∙ sym (listed-at n (λ i. place n (sendOf (entriesIn l n) i)) i 0 (omega arith))))
+    (ext-getD 0 sends (listed n (λ i. Option·getD (sendOf (entriesIn l n) i) n)) (size ∙ sym (length-listed n (λ i. Option·getD (sendOf (entriesIn l n) i) n)))
+    (λ i m. h i (omega arith) ∙ sym (listed-at n (λ i. Option·getD (sendOf (entriesIn l n) i) n) i 0 (omega arith))))
 
 -- the places know how many they are
 module _ (l : List ℤ) (n : ℕ) (sends : List ℕ) (e : sends ≡ placesOf (entriesIn l n)) where

@@ -4,7 +4,7 @@ use native.Mathlib.Omega.{arith}
 use native.Mathlib.Decide.{decLt}
 use mathlib.Core.Path.{_≡_, refl, sym, ap, _∙_}
 use mathlib.Core.Bool.{Bool, true, false, true≢false}
-use mathlib.Core.Option.{none}
+use mathlib.Core.Option.{Option, none, Option·getD}
 use mathlib.Core.List.{List}
 use borrow.Author.Tests.{eqb-true, eq-eqb}
 use lib.Dec.{eqb}
@@ -22,7 +22,6 @@ use Rattle.side.specs.Sides.{keyOf, sideAt, receivesIn, bucketOf}
 use Rattle.side.proofs.Keys.{bucket-low}
 use Rattle.side.proofs.Buckets.{no-receive-in}
 use Rattle.side.proofs.Sends.{sendBy}
-use Rattle.chains.specs.Places.{place}
 use Rattle.chains.specs.Chains.{Filled, Last, receiveIn, Linked, Chained, Placed, Placing, Ready, sendUnderAt}
 use Rattle.chains.proofs.Walks.{last-here, last-later}
 use Rattle.chains.proofs.Found.{send-side, same-behind}
@@ -54,8 +53,8 @@ after-set P xs i v l below at j h = go (decLt j i)
     go (no g) = let z : j ≡ i = omega arith in rw (z, getD-set-same xs i v 0 l) at
 
 module _ (l : List ℤ) (n : ℕ) (sends link heads seen : List ℕ) (i : ℕ) (m : i < n) (h : Placing l n sends link heads seen i) where
-  placed-more : (v : ℕ) → v ≡ place n (sendOf (entriesIn l n) i) → Placed l n (set sends i v) (i + 1)
-  placed-more v e = after-set (λ j x. x ≡ place n (sendOf (entriesIn l n) j)) sends i v (omega (arith, h .size)) (h .placed) e
+  placed-more : (v : ℕ) → v ≡ Option·getD (sendOf (entriesIn l n) i) n → Placed l n (set sends i v) (i + 1)
+  placed-more v e = after-set (λ j x. x ≡ Option·getD (sendOf (entriesIn l n) j) n) sends i v (omega (arith, h .size)) (h .placed) e
 
   -- a record that is no receive
   place-none : sendOf (entriesIn l n) i ≡ none → ((b : ℕ) → receiveIn l b i ≡ false)
@@ -67,7 +66,7 @@ module _ (l : List ℤ) (n : ℕ) (sends link heads seen : List ℕ) (i : ℕ) (
         buckets = h .buckets;
         last = λ b g. last-later (receiveIn l b) i (getD seen b 0) (out b) (h .last b g);
         backed = λ j b a f. older j b a f (decLt j i);
-        placed = placed-more n (sym (ap (place n) e));
+        placed = placed-more n (sym (ap (λ (o : Option ℕ). Option·getD o n) e));
       }
     where
       older : (j b : ℕ) → j < i + 1 → receiveIn l b j ≡ true → Dec (j < i) → Last (receiveIn l b) j (getD link j 0)
@@ -107,12 +106,12 @@ module _ (l : List ℤ) (n : ℕ) (sends link heads seen : List ℕ) (i : ℕ) (
         }
 
     -- what the search finds is the send of the receive
-    found-send : (s : ℕ) → s ≡ sendUnderAt (entriesIn l n) (keyOf k) (getD seen b 0) → s ≡ place n (sendOf (entriesIn l n) i)
+    found-send : (s : ℕ) → s ≡ sendUnderAt (entriesIn l n) (keyOf k) (getD seen b 0) → s ≡ Option·getD (sendOf (entriesIn l n) i) n
     unfolding sendUnderAt
     found-send s f =
         f
         ∙ sym (same-behind l n k (getD seen b 0) i (before .upto) (omega arith) (λ j a c. no-receive-in l k j (before .none j a c)))
-        ∙ rw (length-entries l n) (sym (ap (place n) (send-side l n i m ∙ ap (sendBy (entriesIn l n) i) e)))
+        ∙ rw (length-entries l n) (sym (ap (λ (o : Option ℕ). Option·getD o n) (send-side l n i m ∙ ap (sendBy (entriesIn l n) i) e)))
 
     linked-still : Linked l n (set link i (getD seen b 0)) 0
     linked-still j c a g f =

@@ -4,6 +4,7 @@ use Prim.Native.Nat.{ℕ, zero, suc, _+_, _≤_, _<_}
 use mathlib.Core.Path.{_≡_}
 use mathlib.Core.Bool.{Bool, true, false, cond}
 use mathlib.Core.List.{List}
+use mathlib.Core.Option.{Option·getD}
 use lib.ListN.{length, getD, take}
 use lib.IntN.{ℤ}
 use lib.Dec.{ltb}
@@ -11,7 +12,6 @@ use Rattle.paper.specs.Matching.{Key, countIf, isReceiveOf, sendPlace, sendOf}
 use Rattle.paper.specs.declared.Entry.{Entry}
 use Rattle.store.specs.Layout.{entriesIn}
 use Rattle.side.specs.Sides.{sideAt, sendsIn, receivesIn}
-use Rattle.chains.specs.Places.{place}
 
 -- ---- first and last
 
@@ -58,7 +58,7 @@ Backed l link i = (j b : ℕ) → j < i → receiveIn l b j ≡ true → Last (r
 
 -- the entries before place i have their sends
 abbrev pub Placed : List ℤ → ℕ → List ℕ → ℕ → Type 0
-Placed l n sends i = (j : ℕ) → j < i → getD sends j 0 ≡ place n (sendOf (entriesIn l n) j)
+Placed l n sends i = (j : ℕ) → j < i → getD sends j 0 ≡ Option·getD (sendOf (entriesIn l n) j) n
 
 -- all that holds where the entries before place i are done
 pub record Placing (l : List ℤ) (n : ℕ) (sends link heads seen : List ℕ) (i : ℕ) : Type 0 where
@@ -98,4 +98,4 @@ pub record Ready (l : List ℤ) (sends link : List ℕ) (b head from : ℕ) : Ty
 
 -- the place of the send that a receive under the key belongs to, if it stands at place i
 unfoldable pub sendUnderAt : List Entry → Key → ℕ → ℕ
-sendUnderAt es key i = place (length es) (sendPlace key (countIf (isReceiveOf key) (take i es)) es)
+sendUnderAt es key i = Option·getD (sendPlace key (countIf (isReceiveOf key) (take i es)) es) (length es)

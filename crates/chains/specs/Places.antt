@@ -2,7 +2,7 @@
 use Prim.Native.Nat.{ℕ}
 use mathlib.Core.List.{List}
 use mathlib.Core.Bool.{cond}
-use mathlib.Core.Option.{Option, none, some}
+use mathlib.Core.Option.{Option·getD}
 use lib.ListN.{length, replicate}
 use lib.IntN.{ℤ}
 use lib.Dec.{eqb}
@@ -11,14 +11,9 @@ use Rattle.paper.specs.Matching.{sendOf}
 use Rattle.paper.specs.declared.Entry.{Entry}
 use Rattle.store.specs.Layout.{entriesIn}
 
--- a place, or n where there is none
-abbrev pub place : ℕ → Option ℕ → ℕ
-place n none = n
-place n (some j) = j
-
--- of each entry the place of its send
+-- of each entry the place of its send, and the number of entries where there is none
 unfoldable pub placesOf : List Entry → List ℕ
-placesOf es = listed (length es) (λ i. place (length es) (sendOf es i))
+placesOf es = listed (length es) (λ i. Option·getD (sendOf es i) (length es))
 
 pub record Places : Type 0 where
   pub sends : List ℕ

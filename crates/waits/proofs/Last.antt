@@ -4,7 +4,7 @@ use native.Mathlib.Omega.{arith}
 use native.Mathlib.Numerals.{add-one}
 use mathlib.Core.Path.{_≡_, refl, sym, _∙_}
 use mathlib.Core.Bool.{Bool, true, false, cond}
-use mathlib.Core.Option.{some}
+use mathlib.Core.Option.{some, Option·getD}
 use mathlib.Core.List.{List}
 use lib.ListN.{length, getD, set, replicate, length-set, length-replicate, getD-replicate}
 use lib.Seq.{getD-set-same, getD-set-other}
@@ -15,12 +15,12 @@ use Rattle.paper.specs.Matching.{entryAt, lastOn}
 use Rattle.paper.specs.declared.Entry.{Entry}
 use Rattle.store.specs.Layout.{entryFrom, entriesIn}
 use Rattle.store.proofs.Laws.{length-entries, entry-in}
-use Rattle.waits.specs.Tables.{placeOr, beforeAt, On}
+use Rattle.waits.specs.Tables.{beforeAt, On}
 
 -- of each processor the place of the last of the first i entries that is on it
 pub record Lasts (es : List Entry) (i : ℕ) (last : List ℕ) : Type 0 where
   pub size : length last ≡ 64
-  pub each : (p : ℕ) → p < 64 → getD last p 0 ≡ placeOr (length es) (lastOn es p i)
+  pub each : (p : ℕ) → p < 64 → getD last p 0 ≡ Option·getD (lastOn es p i) (length es)
 
 pub last-none : (l : List ℤ) (n : ℕ) → Lasts (entriesIn l n) 0 (replicate 64 n)
 unfolding lastOn
@@ -42,6 +42,6 @@ module _ (l : List ℤ) (n : ℕ) {i : ℕ} {last : List ℕ} (h : Lasts (entrie
   unfolding lastOn
   last-more = record { size = simp length-set (h .size); each = λ q q<. rw (add-one i, ← here) (go q q< (eqb p q) refl) }
     where
-      go : (q : ℕ) → q < 64 → (t : Bool) → eqb p q ≡ t → getD (set last p i) q 0 ≡ placeOr (length es) (cond t (some i) (lastOn es q i))
+      go : (q : ℕ) → q < 64 → (t : Bool) → eqb p q ≡ t → getD (set last p i) q 0 ≡ Option·getD (cond t (some i) (lastOn es q i)) (length es)
       go q q< true e = let z : p ≡ q = eqb-true p q e in rw (← z) (getD-set-same last p i 0 (omega (arith, h .size, on .low)))
       go q q< false e = getD-set-other last p q i 0 (λ z. eqb-false p q e (sym z)) ∙ h .each q q<

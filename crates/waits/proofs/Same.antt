@@ -2,7 +2,7 @@
 use Prim.Native.Nat.{ℕ, _<_}
 use native.Mathlib.Omega.{arith}
 use mathlib.Core.Path.{_≡_, refl}
-use mathlib.Core.Option.{Option, none, some}
+use mathlib.Core.Option.{Option, none, some, Option·getD}
 use mathlib.Core.List.{List}
 use borrow.Author.Tests.{lt-ltb, le-ltb}
 use lib.ListN.{length, getD}
@@ -14,7 +14,7 @@ use Rattle.paper.specs.declared.Entry.{Entry}
 use Rattle.store.proofs.Listed.{length-listed, listed-at}
 use Rattle.matching.proofs.Belong.{processorAt}
 use Rattle.clock.specs.Promise.{place, waitsOf}
-use Rattle.waits.specs.Tables.{placeOr, originalAt, latencyAt, originalsOf, beforesOf, latenciesOf}
+use Rattle.waits.specs.Tables.{originalAt, latencyAt, originalsOf, beforesOf, latenciesOf}
 use Rattle.waits.proofs.Agree.{Agree, settle-agrees}
 use Rattle.waits.proofs.Closed.{before-within, send-within}
 
@@ -22,18 +22,18 @@ use Rattle.waits.proofs.Closed.{before-within, send-within}
 pub record Given (table : List ℕ) (es : List Entry) (originals : List ℤ) (before send latency : List ℕ) : Type 0 where
   pub are-originals : originals ≡ originalsOf es
   pub are-befores : before ≡ beforesOf es
-  pub are-sends : send ≡ listed (length es) (λ i. placeOr (length es) (sendOf es i))
+  pub are-sends : send ≡ listed (length es) (λ i. Option·getD (sendOf es i) (length es))
   pub are-latencies : latency ≡ latenciesOf table es
 
 -- places that were written down are read again
 module _ (n : ℕ) where
-  place-back : (o : Option ℕ) → ((j : ℕ) → o ≡ some j → j < n) → place n (placeOr n o) ≡ o
+  place-back : (o : Option ℕ) → ((j : ℕ) → o ≡ some j → j < n) → place n (Option·getD o n) ≡ o
   place-back none within = rw (le-ltb n n (omega arith))
   place-back (some j) within = rw (lt-ltb j n (within j refl))
 
   places-back : (f : ℕ → Option ℕ) (i : ℕ) → i < n → ((j : ℕ) → f i ≡ some j → j < n)
-      → place n (getD (listed n (λ k. placeOr n (f k))) i 0) ≡ f i
-  places-back f i i< within = rw (listed-at n (λ k. placeOr n (f k)) i 0 i<) (place-back (f i) within)
+      → place n (getD (listed n (λ k. Option·getD (f k) n)) i 0) ≡ f i
+  places-back f i i< within = rw (listed-at n (λ k. Option·getD (f k) n) i 0 i<) (place-back (f i) within)
 
 module _ (table : List ℕ) (es : List Entry) where
   size : length (originalsOf es) ≡ length es

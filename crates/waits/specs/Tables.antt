@@ -3,17 +3,12 @@
 use Prim.Native.Nat.{ℕ, _<_}
 use mathlib.Core.Path.{_≡_}
 use mathlib.Core.List.{List}
-use mathlib.Core.Option.{Option, none, some}
+use mathlib.Core.Option.{Option·getD}
 use lib.ListN.{length}
 use lib.IntN.{ℤ}
 use Rattle.paper.specs.Clock.{listed}
 use Rattle.paper.specs.Matching.{entryAt, lastOn, latencyFor}
 use Rattle.paper.specs.declared.Entry.{Entry}
-
--- a place, or n where there is none
-abbrev pub placeOr : ℕ → Option ℕ → ℕ
-placeOr n none = n
-placeOr n (some j) = j
 
 -- ---- one entry
 
@@ -22,7 +17,7 @@ originalAt es i = entryAt es i .body .time
 
 -- the place of the record before it on its processor
 abbrev pub beforeAt : List Entry → ℕ → ℕ
-beforeAt es i = placeOr (length es) (lastOn es (entryAt es i .body .processor) i)
+beforeAt es i = Option·getD (lastOn es (entryAt es i .body .processor) i) (length es)
 
 -- how much later than its send it is at least, 0 where it is no receive
 abbrev pub latencyOf : List ℕ → Entry → ℕ
