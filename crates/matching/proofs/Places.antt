@@ -4,10 +4,10 @@ use native.Mathlib.Omega.{arith}
 use native.Mathlib.Decide.{decLt}
 use mathlib.Core.Path.{_≡_, refl, sym, ap, _∙_}
 use mathlib.Core.Bool.{Bool, true, false, cond, true≢false}
-use mathlib.Core.Option.{Option, none, some, Option·none-ne-some}
+use mathlib.Core.Option.{Option, none, some, Option·none-ne-some, Option·map}
 use mathlib.Core.List.{List, [], _∷_}
 use lib.ListN.{length}
-use Rattle.paper.specs.Matching.{Key, isSendOf, oneLater, sendPlace, entryAt}
+use Rattle.paper.specs.Matching.{Key, isSendOf, sendPlace, entryAt}
 use Rattle.paper.specs.declared.Entry.{Entry}
 use Rattle.matching.proofs.Count.{bit, count, count-front, count-yes, count-no, count-less}
 
@@ -27,7 +27,7 @@ pub record Answers (p : ℕ → Bool) (n k : ℕ) (o : Option ℕ) : Type 0 wher
 abbrev shifted : (ℕ → Bool) → ℕ → Bool
 shifted p i = p (suc i)
 
-later-some : (o : Option ℕ) (j : ℕ) → oneLater o ≡ some j → (i : ℕ) × (j ≡ suc i) × (o ≡ some i)
+later-some : (o : Option ℕ) (j : ℕ) → Option·map suc o ≡ some j → (i : ℕ) × (j ≡ suc i) × (o ≡ some i)
 later-some none j e = absurd (Option·none-ne-some j e)
 later-some (some i) j e = (i, cc, refl)
 
@@ -41,7 +41,7 @@ module _ (p : ℕ → Bool) (n : ℕ) where
       record { within = omega (arith, h .within); passes = h .passes; rank = omega (arith, h .rank, count-front p i) }
 
   answer-later : (k : ℕ) (o : Option ℕ) → ((j : ℕ) → Kth p (suc n) (bit (p 0) + k) j → (i : ℕ) × (j ≡ suc i))
-      → Answers (shifted p) n k o → Answers p (suc n) (bit (p 0) + k) (oneLater o)
+      → Answers (shifted p) n k o → Answers p (suc n) (bit (p 0) + k) (Option·map suc o)
   answer-later k o pos a =
       record {
         sound = λ j e. let (i, s, f) = later-some o j e in rw s (kth-later k i (a .sound i f));
@@ -62,7 +62,7 @@ module _ (p : ℕ → Bool) (n : ℕ) where
   only-first e zero h = refl
   only-first e (suc i) h = absurd (omega (arith, h .rank, rw e at (count-front p i)))
 
-  no-answers : (k : ℕ) (o : Option ℕ) → p 0 ≡ false → Answers (shifted p) n k o → Answers p (suc n) k (oneLater o)
+  no-answers : (k : ℕ) (o : Option ℕ) → p 0 ≡ false → Answers (shifted p) n k o → Answers p (suc n) k (Option·map suc o)
   unfolding bit
   no-answers k o e a =
       let z : bit (p 0) + k ≡ k = rw e (omega arith) in
@@ -70,7 +70,7 @@ module _ (p : ℕ → Bool) (n : ℕ) where
 
   -- the 0-th is the first itself, where that passes
   first-answers : (t : Bool) (o : Option ℕ) → p 0 ≡ t → Answers (shifted p) n 0 o
-      → Answers p (suc n) 0 (cond t (some 0) (oneLater o))
+      → Answers p (suc n) 0 (cond t (some 0) (Option·map suc o))
   unfolding count
   first-answers true o e a =
       record {
@@ -80,7 +80,7 @@ module _ (p : ℕ → Bool) (n : ℕ) where
   first-answers false o e a = no-answers 0 o e a
 
   next-answers : (t : Bool) (k : ℕ) (o r : Option ℕ) → p 0 ≡ t → Answers (shifted p) n k o → Answers (shifted p) n (suc k) r
-      → Answers p (suc n) (suc k) (cond t (oneLater o) (oneLater r))
+      → Answers p (suc n) (suc k) (cond t (Option·map suc o) (Option·map suc r))
   unfolding bit
   next-answers true k o r e a b =
       let z : bit (p 0) + k ≡ suc k = rw e (omega arith) in

@@ -1,5 +1,6 @@
 -- Document 01 as definitions, a file to each part. `Answer` is the whole, from a call's inputs to its outcome; the others stand in
 -- the order in which that reads them.
+pub mod Text
 pub mod Tests
 pub mod Numbers
 pub mod Forms

@@ -2,7 +2,7 @@
 use Prim.Native.Nat.{ℕ, zero, suc}
 use mathlib.Core.List.{List, [], _∷_}
 use mathlib.Core.Bool.{Bool, true, false, cond, _&&_, _||_}
-use mathlib.Core.Option.{Option, none, some}
+use mathlib.Core.Option.{Option, none, some, Option·map}
 use lib.ListN.{length, take, drop}
 use lib.IntN.{ℤ, pos, negsuc, natAbs}
 use lib.Signed.{leZ}
@@ -123,8 +123,7 @@ unlisted choice h fields = cond (goodEnd (h .count) fields) (stepOver choice) (R
 -- ---- the data of a listed line
 
 abbrev pub pushed : ℤ → Option (List ℤ) → Option (List ℤ)
-pushed v none = none
-pushed v (some vs) = some (v ∷ vs)
+pushed v = Option·map (λ (vs : List ℤ). v ∷ vs)
 
 -- exactly n fields, each in the form
 unfoldable pub valuesOf : (List ℕ → Field) → ℕ → Option (List ℕ) → Option (List ℤ)
@@ -180,15 +179,11 @@ messageOf (Three length tag peer) =
     cond (leZ (pos 0) length && upTo 63 peer) (some (record { length = natAbs length; tag = tag; peer = natAbs peer })) none
 messageOf Others = none
 
-abbrev pub named : (Message → Role) → Option Message → Option Role
-named role none = none
-named role (some m) = some (role m)
-
 -- none for "a send or receive without its three good data"
 unfoldable pub roleOf : Part → Data → Option Role
 roleOf Part.Neither d = some Neither
-roleOf Part.Sends d = named Send (messageOf d)
-roleOf Part.Receives d = named Receive (messageOf d)
+roleOf Part.Sends d = Option·map Send (messageOf d)
+roleOf Part.Receives d = Option·map Receive (messageOf d)
 
 unfoldable pub withRole : ℤ → ℕ → Option Role → Line
 withRole time processor none = Refused Fault.NoMessage

@@ -2,7 +2,7 @@
 use Prim.Native.Nat.{ℕ, zero, suc, _+_, _-_, _*_}
 use mathlib.Core.List.{List, [], _∷_}
 use mathlib.Core.Bool.{Bool, true, false, cond, _&&_}
-use mathlib.Core.Option.{Option, none, some}
+use mathlib.Core.Option.{Option, none, some, Option·map}
 use lib.ListN.{length, take, getD}
 use lib.IntN.{ℤ, pos}
 use lib.Dec.{eqb}
@@ -54,15 +54,11 @@ countIf test (e ∷ es) = cond (test e) (suc (countIf test es)) (countIf test es
 
 -- ---- the k-th send
 
-abbrev pub oneLater : Option ℕ → Option ℕ
-oneLater none = none
-oneLater (some i) = some (suc i)
-
 -- the place of the k-th send under a key, k and places counted from 0
 unfoldable pub sendPlace : Key → ℕ → List Entry → Option ℕ
 sendPlace key k [] = none
-sendPlace key zero (e ∷ es) = let more = oneLater (sendPlace key zero es) in cond (isSendOf key e) (some 0) more
-sendPlace key (suc k) (e ∷ es) = cond (isSendOf key e) (oneLater (sendPlace key k es)) (oneLater (sendPlace key (suc k) es))
+sendPlace key zero (e ∷ es) = let more = Option·map suc (sendPlace key zero es) in cond (isSendOf key e) (some 0) more
+sendPlace key (suc k) (e ∷ es) = cond (isSendOf key e) (Option·map suc (sendPlace key k es)) (Option·map suc (sendPlace key (suc k) es))
 
 -- "The k-th receive at processor q from p with type t belongs to the k-th send from p to q with type t, both counted in file
 -- order": the send of the entry at place i, where that has a role on a processor

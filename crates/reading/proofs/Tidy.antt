@@ -3,7 +3,7 @@ use Prim.Native.Nat.{ℕ, zero, suc, _≤_, _<_}
 use mathlib.Core.Path.{_≡_, refl, sym, ap, _∙_}
 use mathlib.Core.List.{List, [], _∷_}
 use mathlib.Core.Bool.{Bool, true, false, cond, _&&_}
-use mathlib.Core.Option.{Option, none, some}
+use mathlib.Core.Option.{Option, none, some, Option·map}
 use native.Mathlib.Omega.{arith}
 use lib.IntN.{ℤ, pos, negsuc, natAbs}
 use lib.Signed.{leZ}
@@ -12,7 +12,7 @@ use borrow.Author.Tests.{leb-true}
 use Rattle.paper.specs.Tests.{eqZ, upTo}
 use Rattle.paper.specs.Forms.{wholeOf, timeOf}
 use Rattle.paper.specs.Events.{listedKind, standingOf}
-use Rattle.paper.specs.Line.{field, rest, First, nothing, first, onField, onFirst, firstOf, pushed, valuesOf, asWholes, asOthers, described, dataOf, placed, partOf, messageOf, named, roleOf, withRole, withData, onPlace, listedLine, goodEnd, stepOver, unlisted, sorted, Begun, bad, six, begun, headOf, lineOf}
+use Rattle.paper.specs.Line.{field, rest, First, nothing, first, onField, onFirst, firstOf, pushed, valuesOf, asWholes, asOthers, described, dataOf, placed, partOf, messageOf, roleOf, withRole, withData, onPlace, listedLine, goodEnd, stepOver, unlisted, sorted, Begun, bad, six, begun, headOf, lineOf}
 use Rattle.paper.specs.declared.Choice.{Choice}
 use Rattle.paper.specs.declared.Choice.the-variants as Choice
 use Rattle.paper.specs.declared.Head.{Head}
@@ -88,14 +88,14 @@ up-to-below n (pos m) e = leb-true m n (both (leb 0 m) (leb m n) e .1)
 up-to-below n (negsuc m) e = absurd (let q : _≡_ {A = ℕ} 0 1 = cc in omega arith)
 
 tidy-named : (role : Message → Role) → ((m : Message) → TidyMessage m → TidyRole (role m)) → (t : ℤ) (p : ℕ) → p < 64 → (d : Data) → TidyData d
-    → TidyLine (withRole t p (named role (messageOf d)))
+    → TidyLine (withRole t p (Option·map role (messageOf d)))
 unfolding withRole messageOf
 tidy-named role h t p l Malformed k = tt
 tidy-named role h t p l Others k = tt
 tidy-named role h t p l (Three a b c) k = go (leZ (pos 0) a && upTo 63 c) refl
   where
     go : (x : Bool) → (leZ (pos 0) a && upTo 63 c) ≡ x
-        → TidyLine (withRole t p (named role (cond x (some (record { length = natAbs a; tag = b; peer = natAbs c })) none)))
+        → TidyLine (withRole t p (Option·map role (cond x (some (record { length = natAbs a; tag = b; peer = natAbs c })) none)))
     go true e =
         record {
           processor = l;

@@ -1,7 +1,8 @@
 -- The reports that document 01 writes out.
 use mathlib.Core.Path.{_≡_, refl}
 use mathlib.Core.List.{_++_}
-use Rattle.report.specs.Report.{bytesOf, shown, numbered, verdictShown, acceptedShown, refusedShown, reportOf}
+use Rattle.paper.specs.Text.{bytesOf}
+use Rattle.report.specs.Report.{shown, numbered, verdictShown, acceptedShown, refusedShown, reportOf}
 use Rattle.paper.specs.Forms.{placesFrom}
 use Rattle.paper.specs.declared.Answer.{Answer}
 

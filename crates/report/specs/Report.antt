@@ -1,20 +1,14 @@
 -- Document 01, "The program's whole report, header and all" and "The other reports are ..". Every line ends with LF.
 use Prim.Native.Nat.{ℕ}
-use Prim.Native.Char.{code}
-use Prim.Native.String.{String}
-use Prim.Native.String as String
-use mathlib.Core.List.{List, [], _∷_, _++_}
+use mathlib.Core.List.{List, _++_}
 use mathlib.Core.Bool.{cond}
 use lib.Dec.{eqb}
 use Rattle.io.specs.Counts.{Counts}
 use Rattle.io.specs.Digits.{digits}
+use Rattle.paper.specs.Text.{bytesOf}
 use Rattle.paper.specs.Forms.{placesFrom}
 use Rattle.paper.specs.declared.Answer.{Answer}
 use Rattle.report.specs.Put.{Put}
-
-unfoldable pub bytesOf : String → List ℕ
-bytesOf String.[] = []
-bytesOf (String._∷_ c s) = code c ∷ bytesOf s
 
 -- a number in as many digits as it has, at most twenty
 unfoldable pub shown : ℕ → List ℕ

@@ -6,6 +6,7 @@ pub mod Rounds
 pub mod Cause
 pub mod Bound
 pub mod Lists
+pub mod Agree
 pub mod Stops
 pub mod Meaning
 pub mod Latency

@@ -9,7 +9,7 @@ use Rattle.paper.specs.Matching.{sendsUnder, receivesUnder, countIf, sendPlace,
 use Rattle.paper.specs.Clock.{next, same, withinLimit, settledFrom, settle}
 use Rattle.paper.specs.Answer.{judge, refused, choiceOf, rightLengths, lowLatencies, verdictOf, accepted, written, onWritten, onSettled, onMatched, onRead, onChoice}
 use Rattle.bytes.specs.Bytes.{indexOf}
-use Rattle.samples.specs.Text.{bytesOf}
+use Rattle.paper.specs.Text.{bytesOf}
 use Rattle.samples.specs.Samples.{samples, Hold}
 
 pub samples-hold : Hold samples

@@ -8,7 +8,7 @@ use lib.ListN.{length, take, drop, set, replicate}
 use lib.IntN.{ℤ, pos, negsuc}
 use Rattle.paper.specs.Answer.{Inputs, Outcome, judge}
 use Rattle.paper.specs.declared.Answer.{Answer}
-use Rattle.samples.specs.Text.{bytesOf}
+use Rattle.paper.specs.Text.{bytesOf}
 
 -- ---- the traces
 

@@ -1,8 +1,7 @@
--- `Filling`, `Stored` and `Last` are what the functions' proofs cite; `Outcomes`, `Agree`, `Closed` and `Same` what a caller does.
+-- `Filling`, `Stored` and `Last` are what the functions' proofs cite; `Outcomes`, `Closed` and `Same` what a caller does.
 pub mod Filling
 pub mod Stored
 pub mod Last
 pub mod Outcomes
-pub mod Agree
 pub mod Closed
 pub mod Same

@@ -15,7 +15,8 @@ use Rattle.store.proofs.Listed.{length-listed, listed-at}
 use Rattle.matching.proofs.Belong.{processorAt}
 use Rattle.clock.specs.Promise.{place, waitsOf}
 use Rattle.waits.specs.Tables.{originalAt, latencyAt, originalsOf, beforesOf, latenciesOf}
-use Rattle.waits.proofs.Agree.{Agree, settle-agrees}
+use Rattle.rounds.specs.Compare.{First}
+use Rattle.rounds.proofs.Agree.{settle-agrees}
 use Rattle.waits.proofs.Closed.{before-within, send-within}
 
 -- what the engine is given for a trace's records: three tables of this crate, and of each entry the place of its send
@@ -45,14 +46,14 @@ module _ (table : List ℕ) (es : List Entry) where
 
   -- the tables stand for the waits that the paper tells of
   pub tables-agree : {originals : List ℤ} {before send latency : List ℕ} → Given table es originals before send latency
-      → Agree (waitsOf originals before send latency) (paper.waitsOf table es)
+      → First (waitsOf originals before send latency) (paper.waitsOf table es)
   unfolding waitsOf originalsOf beforesOf latenciesOf paper.waitsOf lastAt
   tables-agree g =
       let n = length es in
       let inside : (i : ℕ) → i < length (originalsOf es) → i < n = λ i l. rw size at l in
       rw (g .are-originals, g .are-befores, g .are-sends, g .are-latencies)
       (record {
-        size = size;
+        size = omega (arith, size);
         original = λ i l. listed-at n (originalAt es) i (pos 0) (inside i l);
         before = λ i l. rw size (places-back n lastAt i (inside i l) (λ j. before-within es (processorAt es i) i j (inside i l)));
         gap = λ i l. refl;
@@ -63,4 +64,5 @@ module _ (table : List ℕ) (es : List Entry) where
   -- and so the engine's answer is the paper's
   pub same-settled : {originals : List ℤ} {before send latency : List ℕ} → Given table es originals before send latency
       → settle (waitsOf originals before send latency) ≡ settle (paper.waitsOf table es)
-  same-settled g = settle-agrees (tables-agree g)
+  unfolding waitsOf paper.waitsOf
+  same-settled g = settle-agrees (tables-agree g) (rw (g .are-originals) size)

@@ -1,5 +1,6 @@
 use native.Mathlib.Omega.{arith}
-use Rattle.report.specs.Report.{bytesOf, numbered}
+use Rattle.paper.specs.Text.{bytesOf}
+use Rattle.report.specs.Report.{numbered}
 use Rattle.report.proofs.Puts.{then}
 use borrow.Author.Needs.{needs}
 use Rattle.report.proofs.put.put_numbered.Statement.{statement}

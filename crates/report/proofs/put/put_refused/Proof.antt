@@ -1,4 +1,5 @@
-use Rattle.report.specs.Report.{bytesOf, refusedShown}
+use Rattle.paper.specs.Text.{bytesOf}
+use Rattle.report.specs.Report.{refusedShown}
 use Rattle.report.proofs.Puts.{then}
 use borrow.Author.Needs.{needs}
 use Rattle.report.proofs.put.put_refused.Statement.{statement}

@@ -1,6 +1,7 @@
 use native.Mathlib.Omega.{arith}
 use borrow.Author.Tests.{ne-eqb}
-use Rattle.report.specs.Report.{bytesOf, verdictShown}
+use Rattle.paper.specs.Text.{bytesOf}
+use Rattle.report.specs.Report.{verdictShown}
 use borrow.Author.Needs.{needs}
 use Rattle.report.proofs.put.put_verdict.Statement.{statement}
 use Rattle.report.proofs.put.put_verdict.Tie as tie

@@ -1,4 +1,4 @@
--- A text as the bytes of a trace, for texts of plain characters.
+-- A text as its bytes, for texts of plain characters.
 use Prim.Native.Nat.{ℕ}
 use Prim.Native.Char.{code}
 use Prim.Native.String.{String, [], _∷_}

@@ -4,24 +4,17 @@ use mathlib.Core.Path.{_≡_, refl}
 use mathlib.Core.List.{List}
 use lib.IntN.{ℤ}
 use Rattle.paper.specs.Clock.{Waits, next, listed, timeAt, settledFrom, settle}
+use Rattle.rounds.specs.Compare.{First}
 use Rattle.rounds.proofs.Lists.{listed-same}
 
--- the same records, with the same originals and waits
-pub record Agree (w v : Waits) : Type 0 where
-  pub size : w .size ≡ v .size
-  pub original : (i : ℕ) → i < w .size → w .original i ≡ v .original i
-  pub before : (i : ℕ) → i < w .size → w .before i ≡ v .before i
-  pub gap : (i : ℕ) → i < w .size → w .gap i ≡ v .gap i
-  pub send : (i : ℕ) → i < w .size → w .send i ≡ v .send i
-  pub latency : (i : ℕ) → i < w .size → w .latency i ≡ v .latency i
-
-module _ {w v : Waits} (agree : Agree w v) where
+-- the first records of v, and as many
+module _ {w v : Waits} (first : First w v) (size : w .size ≡ v .size) where
   next-agrees : (x : ℕ → ℤ) (i : ℕ) → i < w .size → next w x i ≡ next v x i
   unfolding next
-  next-agrees x i i< = rw (agree .original i i<, agree .before i i<, agree .gap i i<, agree .send i i<, agree .latency i i<)
+  next-agrees x i i< = rw (first .original i i<, first .before i i<, first .gap i i<, first .send i i<, first .latency i i<)
 
   list-agrees : (f g : ℕ → ℤ) → ((i : ℕ) → i < w .size → f i ≡ g i) → listed (w .size) f ≡ listed (v .size) g
-  list-agrees f g e = rw (← agree .size) (listed-same (w .size) f g e)
+  list-agrees f g e = rw (← size) (listed-same (w .size) f g e)
 
   from-agrees : (more k : ℕ) (xs : List ℤ) → settledFrom w more k xs ≡ settledFrom v more k xs
   unfolding settledFrom
@@ -37,7 +30,7 @@ module _ {w v : Waits} (agree : Agree w v) where
   unfolding settle
   settle-agrees =
       rw (
-        list-agrees (w .original) (v .original) (agree .original),
+        list-agrees (w .original) (v .original) (first .original),
         from-agrees (max 1 (w .size)) 0 (listed (v .size) (v .original)),
-        agree .size,
+        size,
       )
