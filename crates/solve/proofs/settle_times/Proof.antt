@@ -53,7 +53,18 @@ part-spare-end : tie.Need-part-spare-end
 part-spare-end c = search needs
 
 settle-with-requires : tie.Need-settle-with-requires
-settle-with-requires c κs = let p = c .before .before .before .before .before .before .before .before .before .before .before .pre in record { places = p .places; all-originals = part-long _ (c .before .before .before .before .before .before .before .before .blanks .ensures) (p .few); all-before = part-long _ (c .before .before .before .before .before .before .before .places .ensures) (p .few); all-latency = part-long _ (c .before .before .before .before .before .before .weights .ensures) (p .few); all-spare = part-long _ (c .before .before .before .before .before .blanks2 .ensures) (p .few) }
+settle-with-requires c κs =
+    let c₅ = c .before .before .before .before .before in
+    let blanks2 = c₅ .blanks2 .ensures in
+    let c₆ = c₅ .before in
+    let weights = c₆ .weights .ensures in
+    let c₇ = c₆ .before in
+    let places′ = c₇ .places .ensures in
+    let c₈ = c₇ .before in
+    let blanks = c₈ .blanks .ensures in
+    let c₁₁ = c₈ .before .before .before in
+    let pre = c₁₁ .pre in
+    let p = pre in record { places = p .places; all-originals = part-long _ blanks (p .few); all-before = part-long _ places′ (p .few); all-latency = part-long _ weights (p .few); all-spare = part-long _ blanks2 (p .few) }
 
 same-length : tie.Need-same-length
 same-length c = search needs

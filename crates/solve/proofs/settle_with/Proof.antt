@@ -32,7 +32,19 @@ same-length-5 : tie.Need-same-length-5
 same-length-5 c = search needs
 
 returns : tie.Need-returns
-returns c = engine-answers _ _ _ _ (c .before .before .before .before .before .before .before .before .before .before .before .before .before .before .before .before .before .before .before .before .before .before .before .pre) (c .before .before .before .before .before .before .before .before .before .before .before .before .before .before .before .before .before .originals-into .ensures) (c .before .before .before .before .before .before .before .before .before .before .before .before .before .before .befores-into .ensures) (c .before .before .before .before .before .before .before .before .before .before .latencies-into .ensures) _ _ (c .before .before .settle .kept .1 .1 .1 .1 .0) _ (c .before .before .settle .ensures)
+returns c =
+    let c₂ = c .before .before in
+    let settle = c₂ .settle .kept in
+    let settle′ = c₂ .settle .ensures in
+    let c₁₀ = c₂ .before .before .before .before .before .before .before .before in
+    let latencies-into = c₁₀ .latencies-into .ensures in
+    let c₁₄ = c₁₀ .before .before .before .before in
+    let befores-into = c₁₄ .befores-into .ensures in
+    let c₁₇ = c₁₄ .before .before .before in
+    let originals-into = c₁₇ .originals-into .ensures in
+    let c₂₃ = c₁₇ .before .before .before .before .before .before in
+    let pre = c₂₃ .pre in
+    engine-answers _ _ _ _ pre originals-into befores-into latencies-into _ _ (settle .1 .1 .1 .1 .0) _ settle′
 
 pub settle-with-spec : {M : Type 1} → statement M
 settle-with-spec =

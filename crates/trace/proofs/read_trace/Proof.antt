@@ -54,7 +54,20 @@ same-length-2 : tie.Need-same-length-2 Inv-loop μ-loop
 same-length-2 c = c .before .before .before .before .before .before .before .before .loop .inv .long
 
 returns-2 : tie.Need-returns-2 Inv-loop μ-loop
-returns-2 c = line-refused (c .before .before .before .before .before .before .before .before .loop .inv) _ (c .before .before .before .before .before .before .before .loop-test .taken) (c .before .before .before .before .before .before .find .ensures .0) (c .before .before .before .before .before .if1 .left) (c .before .before .before .before .before .before .find .ensures .1) _ (c .before .before .before .read-line .ensures) _ (c .before .fault .given .1)
+returns-2 c =
+    let c₁ = c .before in
+    let fault = c₁ .fault .given .1 in
+    let c₃ = c₁ .before .before in
+    let read-line = c₃ .read-line .ensures in
+    let c₅ = c₃ .before .before in
+    let if1 = c₅ .if1 .left in
+    let c₆ = c₅ .before in
+    let find = c₆ .find .ensures in
+    let c₇ = c₆ .before in
+    let loop-test = c₇ .loop-test .taken in
+    let c₈ = c₇ .before in
+    let inv = c₈ .loop .inv in
+    line-refused inv _ loop-test (find .0) if1 (find .1) _ read-line _ fault
 
 enum-told : tie.Need-enum-told Inv-loop μ-loop
 enum-told c = search needs
@@ -66,7 +79,18 @@ loop-less : tie.Need-loop-less Inv-loop μ-loop
 loop-less c = search needs
 
 loop-again : tie.Need-loop-again Inv-loop μ-loop
-loop-again c = line-passed (c .before .before .before .before .before .before .before .loop .inv) _ (c .before .before .before .before .before .before .loop-test .taken) (c .before .before .before .before .before .find .ensures .0) (c .before .before .before .before .if1 .left) (c .before .before .before .before .before .find .ensures .1) _ (c .before .before .read-line .ensures) (c .enum-told .given .1)
+loop-again c =
+    let c₂ = c .before .before in
+    let read-line = c₂ .read-line .ensures in
+    let c₄ = c₂ .before .before in
+    let if1 = c₄ .if1 .left in
+    let c₅ = c₄ .before in
+    let find = c₅ .find .ensures in
+    let c₆ = c₅ .before in
+    let loop-test = c₆ .loop-test .taken in
+    let c₇ = c₆ .before in
+    let inv = c₇ .loop .inv in
+    line-passed inv _ loop-test (find .0) if1 (find .1) _ read-line (c .enum-told .given .1)
 
 enum-known-r : tie.Need-enum-known-r Inv-loop μ-loop
 enum-known-r c = search needs
@@ -84,22 +108,64 @@ same-length-3 : tie.Need-same-length-3 Inv-loop μ-loop
 same-length-3 c = c .before .before .before .before .before .before .before .before .before .before .before .before .loop .inv .long
 
 returns-3 : tie.Need-returns-3 Inv-loop μ-loop
-returns-3 c = line-backwards (c .before .before .before .before .before .before .before .before .before .before .before .before .loop .inv) _ (c .before .before .before .before .before .before .before .before .before .before .before .loop-test .taken) (c .before .before .before .before .before .before .before .before .before .before .find .ensures .0) (c .before .before .before .before .before .before .before .before .before .if1 .left) (c .before .before .before .before .before .before .before .before .before .before .find .ensures .1) _ (c .before .before .before .before .before .before .before .read-line .ensures) _ (c .before .before .before .before .before .r .given .1) _ (c .before .earlier .ensures ∙ search needs) (c .if2 .taken)
+returns-3 c =
+    let listed =
+    let c₅ = c .before .before .before .before .before in
+    let r = c₅ .r .given .1 in
+    let c₇ = c₅ .before .before in
+    let read-line = c₇ .read-line .ensures in
+    let c₉ = c₇ .before .before in
+    let if1 = c₉ .if1 .left in
+    let c₁₀ = c₉ .before in
+    let find = c₁₀ .find .ensures in
+    let c₁₁ = c₁₀ .before in
+    let loop-test = c₁₁ .loop-test .taken in
+    let c₁₂ = c₁₁ .before in
+    let inv = c₁₂ .loop .inv in
+    line-backwards inv _ loop-test (find .0) if1 (find .1) _ read-line _ r _
+    in
+    listed (c .before .earlier .ensures ∙ search needs) (c .if2 .taken)
 
 same-length-4 : tie.Need-same-length-4 Inv-loop μ-loop
 same-length-4 c = c .before .before .before .before .before .before .before .before .before .before .before .before .before .loop .inv .long
 
 returns-4 : tie.Need-returns-4 Inv-loop μ-loop
-returns-4 c = line-too-many (c .before .before .before .before .before .before .before .before .before .before .before .before .before .loop .inv) _ (c .before .before .before .before .before .before .before .before .before .before .before .before .loop-test .taken) (c .before .before .before .before .before .before .before .before .before .before .before .find .ensures .0) (c .before .before .before .before .before .before .before .before .before .before .if1 .left) (c .before .before .before .before .before .before .before .before .before .before .before .find .ensures .1) _ (c .before .before .before .before .before .before .before .before .read-line .ensures) _ (c .before .before .before .before .before .before .r .given .1) _ (c .before .before .earlier .ensures ∙ search needs) (c .before .if2 .left) (c .if3 .taken)
+returns-4 c =
+    let listed =
+    let c₆ = c .before .before .before .before .before .before in
+    let r = c₆ .r .given .1 in
+    let c₈ = c₆ .before .before in
+    let read-line = c₈ .read-line .ensures in
+    let c₁₀ = c₈ .before .before in
+    let if1 = c₁₀ .if1 .left in
+    let c₁₁ = c₁₀ .before in
+    let find = c₁₁ .find .ensures in
+    let c₁₂ = c₁₁ .before in
+    let loop-test = c₁₂ .loop-test .taken in
+    let c₁₃ = c₁₂ .before in
+    let inv = c₁₃ .loop .inv in
+    line-too-many inv _ loop-test (find .0) if1 (find .1) _ read-line _ r _
+    in
+    listed (c .before .before .earlier .ensures ∙ search needs) (c .before .if2 .left) (c .if3 .taken)
 
 put-requires : tie.Need-put-requires Inv-loop μ-loop
 put-requires c κs = search needs
 
 mul-last : tie.Need-mul-last Inv-loop μ-loop
-mul-last c = omega (arith, processor-in _ _ _ (c .before .before .before .before .before .before .before .before .before .before .before .read-line .ensures) _ (c .before .before .before .before .before .before .before .before .before .r .given .1))
+mul-last c =
+    let c₉ = c .before .before .before .before .before .before .before .before .before in
+    let r = c₉ .r .given .1 in
+    let c₁₁ = c₉ .before .before in
+    let read-line = c₁₁ .read-line .ensures in
+    omega (arith, processor-in _ _ _ read-line _ r)
 
 array-set-from-last : tie.Need-array-set-from-last Inv-loop μ-loop
-array-set-from-last c = omega (arith, processor-in _ _ _ (c .before .before .before .before .before .before .before .before .before .before .before .read-line .ensures) _ (c .before .before .before .before .before .before .before .before .before .r .given .1))
+array-set-from-last c =
+    let c₉ = c .before .before .before .before .before .before .before .before .before in
+    let r = c₉ .r .given .1 in
+    let c₁₁ = c₉ .before .before in
+    let read-line = c₁₁ .read-line .ensures in
+    omega (arith, processor-in _ _ _ read-line _ r)
 
 add-listed : tie.Need-add-listed Inv-loop μ-loop
 add-listed c = search needs

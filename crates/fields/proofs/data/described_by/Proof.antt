@@ -25,10 +25,30 @@ others-requires c κs = search needs
 
 returns-2 : tie.Need-returns-2
 unfolding readAs
-returns-2 c = c .others .ensures ∙ under-five _ _ (toZ-ofZ (c .before .before .before .before .before .before .fits .descriptor)) (sym (c .before .before .before .before .same .ensures) ∙ c .before .before .before .if1 .left) (sym (c .before .before .same2 .ensures) ∙ c .before .if2 .taken)
+returns-2 c =
+    let c₁ = c .before in
+    let if2 = c₁ .if2 .taken in
+    let c₂ = c₁ .before in
+    let same2 = c₂ .same2 .ensures in
+    let c₃ = c₂ .before in
+    let if1 = c₃ .if1 .left in
+    let c₄ = c₃ .before in
+    let same = c₄ .same .ensures in
+    let c₆ = c₄ .before .before in
+    let descriptor = c₆ .fits .descriptor in
+    c .others .ensures ∙ under-five _ _ (toZ-ofZ descriptor) (sym same ∙ if1) (sym same2 ∙ if2)
 
 returns-3 : tie.Need-returns-3
-returns-3 c = under-none _ _ (toZ-ofZ (c .before .before .before .before .before .fits .descriptor)) (sym (c .before .before .before .same .ensures) ∙ c .before .before .if1 .left) (sym (c .before .same2 .ensures) ∙ c .if2 .left)
+returns-3 c =
+    let c₁ = c .before in
+    let same2 = c₁ .same2 .ensures in
+    let c₂ = c₁ .before in
+    let if1 = c₂ .if1 .left in
+    let c₃ = c₂ .before in
+    let same = c₃ .same .ensures in
+    let c₅ = c₃ .before .before in
+    let descriptor = c₅ .fits .descriptor in
+    under-none _ _ (toZ-ofZ descriptor) (sym same ∙ if1) (sym same2 ∙ c .if2 .left)
 
 pub described-by-spec : {M : Type 1} → statement M
 described-by-spec =

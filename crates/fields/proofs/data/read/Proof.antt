@@ -28,14 +28,30 @@ enum-told c = search needs
 
 returns-3 : tie.Need-returns-3
 unfolding readAs
-returns-3 c = no-descriptor _ _ (c .before .before .before .before .if1 .left) (c .before .before .before .if2 .left) (not-got _ _ _ (c .before .before .value-at .ensures) (c .enum-told .given .1))
+returns-3 c =
+    let c₂ = c .before .before in
+    let value-at = c₂ .value-at .ensures in
+    let c₃ = c₂ .before in
+    let if2 = c₃ .if2 .left in
+    let c₄ = c₃ .before in
+    let if1 = c₄ .if1 .left in
+    no-descriptor _ _ if1 if2 (not-got _ _ _ value-at (c .enum-told .given .1))
 
 described-by-requires : tie.Need-described-by-requires
 described-by-requires c κs = search needs
 
 returns-4 : tie.Need-returns-4
 unfolding readAs
-returns-4 c = c .described-by .ensures ∙ with-descriptor _ _ (c .before .before .before .before .before .before .if1 .left) (c .before .before .before .before .before .if2 .left) _ _ (got _ _ _ (c .before .before .before .before .value-at .ensures) _ _ (c .before .before .descriptor .given .1)) (search needs)
+returns-4 c =
+    let c₂ = c .before .before in
+    let descriptor = c₂ .descriptor .given .1 in
+    let c₄ = c₂ .before .before in
+    let value-at = c₄ .value-at .ensures in
+    let c₅ = c₄ .before in
+    let if2 = c₅ .if2 .left in
+    let c₆ = c₅ .before in
+    let if1 = c₆ .if1 .left in
+    c .described-by .ensures ∙ with-descriptor _ _ if1 if2 _ _ (got _ _ _ value-at _ _ descriptor) (search needs)
 
 pub read-spec : {M : Type 1} → statement M
 read-spec =

@@ -32,7 +32,14 @@ enum-told-2 c = search needs
 
 returns-2 : tie.Need-returns-2
 unfolding asWholes valuesOf readAs
-returns-2 c = rw (got _ _ _ (c .before .before .before .before .before .before .value-at .ensures) _ _ (c .before .before .before .before .a .given .1), not-got _ _ _ (c .before .before .value-at2 .ensures) (c .enum-told2 .given .1))
+returns-2 c =
+    let c₂ = c .before .before in
+    let value-at2 = c₂ .value-at2 .ensures in
+    let c₄ = c₂ .before .before in
+    let a = c₄ .a .given .1 in
+    let c₆ = c₄ .before .before in
+    let value-at = c₆ .value-at .ensures in
+    rw (got _ _ _ value-at _ _ a, not-got _ _ _ value-at2 (c .enum-told2 .given .1))
 
 value-at-requires-3 : tie.Need-value-at-requires-3
 value-at-requires-3 c κs = search needs
@@ -45,15 +52,43 @@ enum-told-3 c = search needs
 
 returns-3 : tie.Need-returns-3
 unfolding asWholes valuesOf readAs
-returns-3 c = rw (got _ _ _ (c .before .before .before .before .before .before .before .before .before .before .value-at .ensures) _ _ (c .before .before .before .before .before .before .before .before .a .given .1), got _ _ _ (c .before .before .before .before .before .before .value-at2 .ensures) _ _ (c .before .before .before .before .b .given .1), not-got _ _ _ (c .before .before .value-at3 .ensures) (c .enum-told3 .given .1))
+returns-3 c =
+    let c₂ = c .before .before in
+    let value-at3 = c₂ .value-at3 .ensures in
+    let c₄ = c₂ .before .before in
+    let b = c₄ .b .given .1 in
+    let c₆ = c₄ .before .before in
+    let value-at2 = c₆ .value-at2 .ensures in
+    let c₈ = c₆ .before .before in
+    let a = c₈ .a .given .1 in
+    let c₁₀ = c₈ .before .before in
+    let value-at = c₁₀ .value-at .ensures in
+    rw (got _ _ _ value-at _ _ a, got _ _ _ value-at2 _ _ b, not-got _ _ _ value-at3 (c .enum-told3 .given .1))
 
 returns-4 : tie.Need-returns-4
 unfolding asWholes valuesOf readAs
-returns-4 c = rw (got _ _ _ (c .before .before .before .before .before .before .before .before .before .before .before .before .value-at .ensures) _ _ (c .before .before .before .before .before .before .before .before .before .before .a .given .1), got _ _ _ (c .before .before .before .before .before .before .before .before .value-at2 .ensures) _ _ (c .before .before .before .before .before .before .b .given .1), got _ _ _ (c .before .before .before .before .value-at3 .ensures) _ _ (c .before .before .c .given .1), past _ _ (c .if1 .taken)) (three-made (search needs) (search needs) (search needs))
+returns-4 c =
+    let third = let k = c .before .before in got _ _ _ (k .before .before .value-at3 .ensures) _ _ (k .c .given .1) in
+    let second = let k = c .before .before .before .before .before .before in got _ _ _ (k .before .before .value-at2 .ensures) _ _ (k .b .given .1) in
+    let first = let k = c .before .before .before .before .before .before .before .before .before .before in got _ _ _ (k .before .before .value-at .ensures) _ _ (k .a .given .1) in
+    rw (first, second, third, past _ _ (c .if1 .taken)) (three-made (search needs) (search needs) (search needs))
 
 returns-5 : tie.Need-returns-5
 unfolding asWholes valuesOf readAs
-returns-5 c = rw (got _ _ _ (c .before .before .before .before .before .before .before .before .before .before .before .before .value-at .ensures) _ _ (c .before .before .before .before .before .before .before .before .before .before .a .given .1), got _ _ _ (c .before .before .before .before .before .before .before .before .value-at2 .ensures) _ _ (c .before .before .before .before .before .before .b .given .1), got _ _ _ (c .before .before .before .before .value-at3 .ensures) _ _ (c .before .before .c .given .1), inside _ _ (c .if1 .left))
+returns-5 c =
+    let c₂ = c .before .before in
+    let c′ = c₂ .c .given .1 in
+    let c₄ = c₂ .before .before in
+    let value-at3 = c₄ .value-at3 .ensures in
+    let c₆ = c₄ .before .before in
+    let b = c₆ .b .given .1 in
+    let c₈ = c₆ .before .before in
+    let value-at2 = c₈ .value-at2 .ensures in
+    let c₁₀ = c₈ .before .before in
+    let a = c₁₀ .a .given .1 in
+    let c₁₂ = c₁₀ .before .before in
+    let value-at = c₁₂ .value-at .ensures in
+    rw (got _ _ _ value-at _ _ a, got _ _ _ value-at2 _ _ b, got _ _ _ value-at3 _ _ c′, inside _ _ (c .if1 .left))
 
 pub three-spec : {M : Type 1} → statement M
 three-spec =

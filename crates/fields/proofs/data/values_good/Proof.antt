@@ -28,7 +28,14 @@ enum-told : tie.Need-enum-told Inv-loop μ-loop
 enum-told c = search needs
 
 returns : tie.Need-returns Inv-loop μ-loop
-returns c = values-stop _ _ _ (c .before .before .before .loop-test .taken) (not-got _ _ _ (c .before .before .value-at .ensures) (c .enum-told .given .1)) ∙ sym (c .before .before .before .before .loop .inv .1)
+returns c =
+    let c₂ = c .before .before in
+    let value-at = c₂ .value-at .ensures in
+    let c₃ = c₂ .before in
+    let loop-test = c₃ .loop-test .taken in
+    let c₄ = c₃ .before in
+    let inv = c₄ .loop .inv in
+    values-stop _ _ _ loop-test (not-got _ _ _ value-at (c .enum-told .given .1)) ∙ sym (inv .1)
 
 sub-left : tie.Need-sub-left Inv-loop μ-loop
 sub-left c = search needs
@@ -37,7 +44,16 @@ loop-less : tie.Need-loop-less Inv-loop μ-loop
 loop-less c = search needs
 
 loop-again : tie.Need-loop-again Inv-loop μ-loop
-loop-again c = (search needs, c .before .before .before .before .before .loop .inv .1 ∙ values-go _ _ _ (c .before .before .before .before .loop-test .taken) _ _ (got _ _ _ (c .before .before .before .value-at .ensures) _ _ (c .before .next .given .1)))
+loop-again c =
+    let c₁ = c .before in
+    let next = c₁ .next .given .1 in
+    let c₃ = c₁ .before .before in
+    let value-at = c₃ .value-at .ensures in
+    let c₄ = c₃ .before in
+    let loop-test = c₄ .loop-test .taken in
+    let c₅ = c₄ .before in
+    let inv = c₅ .loop .inv in
+    (search needs, inv .1 ∙ values-go _ _ _ loop-test _ _ (got _ _ _ value-at _ _ next))
 
 returns-2 : tie.Need-returns-2 Inv-loop μ-loop
 returns-2 c = values-end _ _ _ _ (c .loop-test .left) ∙ sym (c .before .loop .inv .1)

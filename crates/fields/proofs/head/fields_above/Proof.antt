@@ -34,7 +34,14 @@ loop-less : tie.Need-loop-less Inv-loop μ-loop
 loop-less c = search needs
 
 loop-again : tie.Need-loop-again Inv-loop μ-loop
-loop-again c = let i = c .before .before .before .loop .inv in (search needs, search needs, i .2 ∙ count-goes _ _ _ (i .0) (c .before .find .ensures .0) _ (c .before .before .loop-test .taken) (c .if1 .left) (c .before .find .ensures .1))
+loop-again c =
+    let c₁ = c .before in
+    let find = c₁ .find .ensures in
+    let c₂ = c₁ .before in
+    let loop-test = c₂ .loop-test .taken in
+    let c₃ = c₂ .before in
+    let inv = c₃ .loop .inv in
+    let i = inv in (search needs, search needs, i .2 ∙ count-goes _ _ _ (i .0) (find .0) _ loop-test (c .if1 .left) (find .1))
 
 returns-2 : tie.Need-returns-2 Inv-loop μ-loop
 returns-2 c = let i = c .before .loop .inv in count-ends _ _ (c .loop-test .left) ∙ sym (i .2)

@@ -31,7 +31,14 @@ enum-told-2 c = search needs
 
 returns-2 : tie.Need-returns-2
 unfolding begunOf placeOf readAs
-returns-2 c = without _ (rw (got _ _ _ (c .before .before .before .before .before .before .value-at .ensures) _ _ (c .before .before .before .before .processor .given .1), not-got _ _ _ (c .before .before .value-at2 .ensures) (c .enum-told2 .given .1)))
+returns-2 c =
+    let c₂ = c .before .before in
+    let value-at2 = c₂ .value-at2 .ensures in
+    let c₄ = c₂ .before .before in
+    let processor = c₄ .processor .given .1 in
+    let c₆ = c₄ .before .before in
+    let value-at = c₆ .value-at .ensures in
+    without _ (rw (got _ _ _ value-at _ _ processor, not-got _ _ _ value-at2 (c .enum-told2 .given .1)))
 
 count-at-requires : tie.Need-count-at-requires
 count-at-requires c κs = search needs
@@ -44,15 +51,28 @@ enum-told-3 c = search needs
 
 returns-3 : tie.Need-returns-3
 unfolding begunOf placeOf readAs
-returns-3 c = without _ (rw (got _ _ _ (c .before .before .before .before .before .before .before .before .before .before .value-at .ensures) _ _ (c .before .before .before .before .before .before .before .before .processor .given .1), got _ _ _ (c .before .before .before .before .before .before .value-at2 .ensures) _ _ (c .before .before .before .before .process .given .1), not-counted _ _ _ (c .before .before .count-at .ensures) (c .enum-told3 .given .1)))
+returns-3 c =
+    let c₂ = c .before .before in
+    let count-at = c₂ .count-at .ensures in
+    let c₄ = c₂ .before .before in
+    let process = c₄ .process .given .1 in
+    let c₆ = c₄ .before .before in
+    let value-at2 = c₆ .value-at2 .ensures in
+    let c₈ = c₆ .before .before in
+    let processor = c₈ .processor .given .1 in
+    let c₁₀ = c₈ .before .before in
+    let value-at = c₁₀ .value-at .ensures in
+    without _ (rw (got _ _ _ value-at _ _ processor, got _ _ _ value-at2 _ _ process, not-counted _ _ _ count-at (c .enum-told3 .given .1)))
 
 returns-4 : tie.Need-returns-4
 unfolding begunOf placeOf readAs
 returns-4 c =
+    let count = let k = c .before in counted _ _ _ (k .before .before .count-at .ensures) _ _ (k .count .given .1) in
+    let process = let k = c .before .before .before .before .before in got _ _ _ (k .before .before .value-at2 .ensures) _ _ (k .process .given .1) in
+    let processor = let k = c .before .before .before .before .before .before .before .before .before in got _ _ _ (k .before .before .value-at .ensures) _ _ (k .processor .given .1) in
     record {
-      is =
-          rw (got _ _ _ (c .before .before .before .before .before .before .before .before .before .before .before .value-at .ensures) _ _ (c .before .before .before .before .before .before .before .before .before .processor .given .1), got _ _ _ (c .before .before .before .before .before .before .before .value-at2 .ensures) _ _ (c .before .before .before .before .before .process .given .1), counted _ _ _ (c .before .before .before .count-at .ensures) _ _ (c .before .count .given .1)) (made _ _ (search needs) (search needs) (search needs) (search needs) (search needs));
-      near = counted-near _ _ _ (c .before .before .before .count-at .ensures) _ _ (c .before .count .given .1);
+      is = rw (processor, process, count) (made _ _ (search needs) (search needs) (search needs) (search needs) (search needs));
+      near = let k = c .before in counted-near _ _ _ (k .before .before .count-at .ensures) _ _ (k .count .given .1);
     }
 
 pub place-spec : {M : Type 1} → statement M

@@ -30,7 +30,14 @@ enum-told-2 c = search needs
 
 returns-2 : tie.Need-returns-2
 unfolding begunOf readAs
-returns-2 c = without _ (bad-event _ _ _ (got _ _ _ (c .before .before .before .before .before .before .value-at .ensures) _ _ (c .before .before .before .before .kind .given .1)) (not-got _ _ _ (c .before .before .value-at2 .ensures) (c .enum-told2 .given .1)))
+returns-2 c =
+    let c₂ = c .before .before in
+    let value-at2 = c₂ .value-at2 .ensures in
+    let c₄ = c₂ .before .before in
+    let kind = c₄ .kind .given .1 in
+    let c₆ = c₄ .before .before in
+    let value-at = c₆ .value-at .ensures in
+    without _ (bad-event _ _ _ (got _ _ _ value-at _ _ kind) (not-got _ _ _ value-at2 (c .enum-told2 .given .1)))
 
 value-at-requires-3 : tie.Need-value-at-requires-3
 value-at-requires-3 c κs = search needs
@@ -46,14 +53,43 @@ bad-stamp-requires c κs = search needs
 
 returns-3 : tie.Need-returns-3
 unfolding readAs
-returns-3 c = instead (c .bad-stamp .ensures) (bad-time _ _ _ (got _ _ _ (c .before .before .before .before .before .before .before .before .before .before .before .value-at .ensures) _ _ (c .before .before .before .before .before .before .before .before .before .kind .given .1)) _ _ (got _ _ _ (c .before .before .before .before .before .before .before .value-at2 .ensures) _ _ (c .before .before .before .before .before .event .given .1)) (not-got _ _ _ (c .before .before .before .value-at3 .ensures) (c .before .enum-told3 .given .1)))
+returns-3 c =
+    let c₁ = c .before in
+    let enum-told3 = c₁ .enum-told3 .given .1 in
+    let c₃ = c₁ .before .before in
+    let value-at3 = c₃ .value-at3 .ensures in
+    let c₅ = c₃ .before .before in
+    let event = c₅ .event .given .1 in
+    let c₇ = c₅ .before .before in
+    let value-at2 = c₇ .value-at2 .ensures in
+    let c₉ = c₇ .before .before in
+    let kind = c₉ .kind .given .1 in
+    let c₁₁ = c₉ .before .before in
+    let value-at = c₁₁ .value-at .ensures in
+    instead (c .bad-stamp .ensures) (bad-time _ _ _ (got _ _ _ value-at _ _ kind) _ _ (got _ _ _ value-at2 _ _ event) (not-got _ _ _ value-at3 enum-told3))
 
 place-requires : tie.Need-place-requires
 place-requires c κs = search needs
 
 returns-4 : tie.Need-returns-4
 unfolding readAs
-returns-4 c = instead (c .place .ensures) (good-three _ _ _ (got _ _ _ (c .before .before .before .before .before .before .before .before .before .before .before .before .value-at .ensures) _ _ (c .before .before .before .before .before .before .before .before .before .before .kind .given .1)) _ _ (got _ _ _ (c .before .before .before .before .before .before .before .before .value-at2 .ensures) _ _ (c .before .before .before .before .before .before .event .given .1)) _ _ (got _ _ _ (c .before .before .before .before .value-at3 .ensures) _ _ (c .before .before .time .given .1)) (search needs) (search needs) (search needs))
+returns-4 c =
+    let three =
+    let c₂ = c .before .before in
+    let time = c₂ .time .given .1 in
+    let c₄ = c₂ .before .before in
+    let value-at3 = c₄ .value-at3 .ensures in
+    let c₆ = c₄ .before .before in
+    let event = c₆ .event .given .1 in
+    let c₈ = c₆ .before .before in
+    let value-at2 = c₈ .value-at2 .ensures in
+    let c₁₀ = c₈ .before .before in
+    let kind = c₁₀ .kind .given .1 in
+    let c₁₂ = c₁₀ .before .before in
+    let value-at = c₁₂ .value-at .ensures in
+    good-three _ _ _ (got _ _ _ value-at _ _ kind) _ _ (got _ _ _ value-at2 _ _ event) _ _ (got _ _ _ value-at3 _ _ time)
+    in
+    instead (c .place .ensures) (three (search needs) (search needs) (search needs))
 
 pub six-spec : {M : Type 1} → statement M
 six-spec =

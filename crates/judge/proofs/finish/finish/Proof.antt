@@ -20,7 +20,16 @@ same-length-2 : tie.Need-same-length-2
 same-length-2 c = search needs
 
 returns : tie.Need-returns
-returns c = when-asked _ _ _ _ _ _ (c .before .before .before .before .before .before .before .before .before .before .before .pre .0) _ _ _ (c .before .before .before .before .before .before .before .if1 .taken) _ _ (c .before .before .before .before .before .write-trace .ensures) (c .before .concluded .ensures)
+returns c =
+    let c₁ = c .before in
+    let concluded = c₁ .concluded .ensures in
+    let c₅ = c₁ .before .before .before .before in
+    let write-trace = c₅ .write-trace .ensures in
+    let c₇ = c₅ .before .before in
+    let if1 = c₇ .if1 .taken in
+    let c₁₁ = c₇ .before .before .before .before in
+    let pre = c₁₁ .pre in
+    when-asked _ _ _ _ _ _ (pre .0) _ _ _ if1 _ _ write-trace concluded
 
 same-length-3 : tie.Need-same-length-3
 same-length-3 c = search needs

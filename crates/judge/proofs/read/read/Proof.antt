@@ -27,10 +27,27 @@ slice-aggregate-settle : tie.Need-slice-aggregate-settle
 slice-aggregate-settle c = search needs
 
 settle-requires : tie.Need-settle-requires
-settle-requires c κs = (read-held _ _ _ (c .before .before .before .before .before .before .before .before .empty-store .ensures) _ _ (c .before .before .before .before .before .before .read-trace .ensures) (c .before .before .before .enum-told .given .1) (c .before .before .before .before .before .before .before .before .before .before .before .before .pre .0) (c .before .before .before .before .before .before .read-trace .kept .1 .1 .0), c .before .before .before .before .before .before .before .before .before .before .before .before .pre .1)
+settle-requires c κs =
+    let c₃ = c .before .before .before in
+    let enum-told′ = c₃ .enum-told .given .1 in
+    let c₆ = c₃ .before .before .before in
+    let read-trace = c₆ .read-trace .ensures in
+    let read-trace′ = c₆ .read-trace .kept in
+    let c₈ = c₆ .before .before in
+    let empty-store = c₈ .empty-store .ensures in
+    let c₁₂ = c₈ .before .before .before .before in
+    let pre = c₁₂ .pre in
+    (read-held _ _ _ empty-store _ _ read-trace enum-told′ (pre .0) (read-trace′ .1 .1 .0), pre .1)
 
 returns : tie.Need-returns
-returns c = read-refused _ _ _ (c .before .before .before .before .before .before .before .empty-store .ensures) _ _ (c .before .before .before .before .before .read-trace .ensures) _ _ _ _ _ _ (c .before .before .stop .given .1) (c .refused .ensures)
+returns c =
+    let c₂ = c .before .before in
+    let stop = c₂ .stop .given .1 in
+    let c₅ = c₂ .before .before .before in
+    let read-trace = c₅ .read-trace .ensures in
+    let c₇ = c₅ .before .before in
+    let empty-store = c₇ .empty-store .ensures in
+    read-refused _ _ _ empty-store _ _ read-trace _ _ _ _ _ _ stop (c .refused .ensures)
 
 same-length : tie.Need-same-length
 same-length c = search needs
@@ -39,7 +56,16 @@ same-length-2 : tie.Need-same-length-2
 same-length-2 c = search needs
 
 returns-2 : tie.Need-returns-2
-returns-2 c = c .before .before .before .settle .ensures ∙ read-whole _ _ _ (c .before .before .before .before .before .before .before .before .before .before .before .before .empty-store .ensures) _ _ (c .before .before .before .before .before .before .before .before .before .before .read-trace .ensures) _ _ _ _ (c .before .before .before .before .before .before .before .enum-told .given .1)
+returns-2 c =
+    let c₃ = c .before .before .before in
+    let settle = c₃ .settle .ensures in
+    let c₇ = c₃ .before .before .before .before in
+    let enum-told′ = c₇ .enum-told .given .1 in
+    let c₁₀ = c₇ .before .before .before in
+    let read-trace = c₁₀ .read-trace .ensures in
+    let c₁₂ = c₁₀ .before .before in
+    let empty-store = c₁₂ .empty-store .ensures in
+    settle ∙ read-whole _ _ _ empty-store _ _ read-trace _ _ _ _ enum-told′
 
 pub read-spec : {M : Type 1} → statement M
 read-spec =

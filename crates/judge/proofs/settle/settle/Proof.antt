@@ -51,19 +51,66 @@ part-finish-start : tie.Need-part-finish-start
 part-finish-start c = search needs
 
 part-finish-end : tie.Need-part-finish-end
-part-finish-end c = simp length-append (omega (arith, c .before .before .before .before .before .solve .kept .1 .1 .0 ∙ part-long _ (c .before .before .before .before .before .before .before .blanks .ensures) (c .before .before .before .before .before .before .before .before .before .before .before .pre .0 .few)))
+part-finish-end c =
+    let c₅ = c .before .before .before .before .before in
+    let solve = c₅ .solve .kept in
+    let c₇ = c₅ .before .before in
+    let blanks = c₇ .blanks .ensures in
+    let c₁₁ = c₇ .before .before .before .before in
+    let pre = c₁₁ .pre .0 .few in
+    simp length-append (omega (arith, solve .1 .1 .0 ∙ part-long _ blanks pre))
 
 finish-requires : tie.Need-finish-requires
-finish-requires c κs = (settle-found _ _ _ _ _ _ (c .before .before .before .before .before .before .before .before .before .before .before .before .before .before .pre .0) _ (part-long _ (c .before .before .before .before .before .before .before .before .before .before .blanks .ensures) (c .before .before .before .before .before .before .before .before .before .before .before .before .before .before .pre .0 .few)) _ _ (c .before .before .before .before .before .before .before .before .solve .ensures) _ _ _ (c .before .before .before .before .before .matched .given .1) _, c .before .before .before .before .before .before .before .before .before .before .before .before .before .before .pre .1)
+finish-requires c κs =
+    let c₅ = c .before .before .before .before .before in
+    let matched = c₅ .matched .given .1 in
+    let c₈ = c₅ .before .before .before in
+    let solve = c₈ .solve .ensures in
+    let c₁₀ = c₈ .before .before in
+    let blanks = c₁₀ .blanks .ensures in
+    let c₁₄ = c₁₀ .before .before .before .before in
+    let pre = c₁₄ .pre in
+    let pre′ = c₁₄ .pre .0 .few in
+    (settle-found _ _ _ _ _ _ (pre .0) _ (part-long _ blanks pre′) _ _ solve _ _ _ matched _, pre .1)
 
 returns : tie.Need-returns
-returns c = settle-refused _ _ _ _ _ _ (c .before .before .before .before .before .before .before .before .before .before .before .pre .0) _ (part-long _ (c .before .before .before .before .before .before .before .blanks .ensures) (c .before .before .before .before .before .before .before .before .before .before .before .pre .0 .few)) _ _ (c .before .before .before .before .before .solve .ensures) _ _ _ _ _ (c .before .before .fault .given .1) (c .refused .ensures)
+returns c =
+    let c₂ = c .before .before in
+    let fault = c₂ .fault .given .1 in
+    let c₅ = c₂ .before .before .before in
+    let solve = c₅ .solve .ensures in
+    let c₇ = c₅ .before .before in
+    let blanks = c₇ .blanks .ensures in
+    let c₁₁ = c₇ .before .before .before .before in
+    let pre = c₁₁ .pre in
+    let pre′ = c₁₁ .pre .0 .few in
+    settle-refused _ _ _ _ _ _ (pre .0) _ (part-long _ blanks pre′) _ _ solve _ _ _ _ _ fault (c .refused .ensures)
 
 returns-2 : tie.Need-returns-2
-returns-2 c = settle-impossible _ _ _ _ _ _ (c .before .before .before .before .before .before .before .before .before .before .pre .0) _ (part-long _ (c .before .before .before .before .before .before .blanks .ensures) (c .before .before .before .before .before .before .before .before .before .before .pre .0 .few)) _ _ (c .before .before .before .before .solve .ensures) _ _ _ (c .before .enum-told .given .1) (c .refused2 .ensures)
+returns-2 c =
+    let c₁ = c .before in
+    let enum-told′ = c₁ .enum-told .given .1 in
+    let c₄ = c₁ .before .before .before in
+    let solve = c₄ .solve .ensures in
+    let c₆ = c₄ .before .before in
+    let blanks = c₆ .blanks .ensures in
+    let c₁₀ = c₆ .before .before .before .before in
+    let pre = c₁₀ .pre in
+    let pre′ = c₁₀ .pre .0 .few in
+    settle-impossible _ _ _ _ _ _ (pre .0) _ (part-long _ blanks pre′) _ _ solve _ _ _ enum-told′ (c .refused2 .ensures)
 
 returns-3 : tie.Need-returns-3
-returns-3 c = settle-never _ _ _ _ _ _ (c .before .before .before .before .before .before .before .before .before .before .pre .0) _ (part-long _ (c .before .before .before .before .before .before .blanks .ensures) (c .before .before .before .before .before .before .before .before .before .before .pre .0 .few)) _ _ (c .before .before .before .before .solve .ensures) _ _ _ (c .before .enum-told2 .given .1)
+returns-3 c =
+    let c₁ = c .before in
+    let enum-told2 = c₁ .enum-told2 .given .1 in
+    let c₄ = c₁ .before .before .before in
+    let solve = c₄ .solve .ensures in
+    let c₆ = c₄ .before .before in
+    let blanks = c₆ .blanks .ensures in
+    let c₁₀ = c₆ .before .before .before .before in
+    let pre = c₁₀ .pre in
+    let pre′ = c₁₀ .pre .0 .few in
+    settle-never _ _ _ _ _ _ (pre .0) _ (part-long _ blanks pre′) _ _ solve _ _ _ enum-told2
 
 same-length : tie.Need-same-length
 same-length c = search needs
@@ -72,7 +119,19 @@ same-length-2 : tie.Need-same-length-2
 same-length-2 c = search needs
 
 returns-4 : tie.Need-returns-4
-returns-4 c = c .before .before .before .finish .ensures ∙ settle-onward _ _ _ _ _ _ (c .before .before .before .before .before .before .before .before .before .before .before .before .before .before .before .before .before .before .pre .0) _ (part-long _ (c .before .before .before .before .before .before .before .before .before .before .before .before .before .before .blanks .ensures) (c .before .before .before .before .before .before .before .before .before .before .before .before .before .before .before .before .before .before .pre .0 .few)) _ _ (c .before .before .before .before .before .before .before .before .before .before .before .before .solve .ensures) _ _ _ (c .before .before .before .before .before .before .before .before .before .matched .given .1) _ _ _ _
+returns-4 c =
+    let c₃ = c .before .before .before in
+    let finish = c₃ .finish .ensures in
+    let c₉ = c₃ .before .before .before .before .before .before in
+    let matched = c₉ .matched .given .1 in
+    let c₁₂ = c₉ .before .before .before in
+    let solve = c₁₂ .solve .ensures in
+    let c₁₄ = c₁₂ .before .before in
+    let blanks = c₁₄ .blanks .ensures in
+    let c₁₈ = c₁₄ .before .before .before .before in
+    let pre = c₁₈ .pre in
+    let pre′ = c₁₈ .pre .0 .few in
+    finish ∙ settle-onward _ _ _ _ _ _ (pre .0) _ (part-long _ blanks pre′) _ _ solve _ _ _ matched _ _ _ _
 
 pub settle-spec : {M : Type 1} → statement M
 settle-spec =

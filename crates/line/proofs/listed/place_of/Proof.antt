@@ -14,7 +14,15 @@ up-to-requires : tie.Need-up-to-requires
 up-to-requires c κs = search needs
 
 returns : tie.Need-returns
-returns c = own-process (toZ-ofZ (c .before .before .before .fits .processor)) (toZ-ofZ (c .before .before .before .fits .process)) (sym (c .before .before .same .ensures) ∙ c .before .if1 .taken) _ (c .up-to .ensures)
+returns c =
+    let c₁ = c .before in
+    let if1 = c₁ .if1 .taken in
+    let c₂ = c₁ .before in
+    let same = c₂ .same .ensures in
+    let c₃ = c₂ .before in
+    let processor = c₃ .fits .processor in
+    let process = c₃ .fits .process in
+    own-process (toZ-ofZ processor) (toZ-ofZ process) (sym same ∙ if1) _ (c .up-to .ensures)
 
 returns-2 : tie.Need-returns-2
 unfolding numberIn

@@ -40,19 +40,53 @@ over-requires-2 c κs = search needs
 
 returns : tie.Need-returns
 unfolding sorted
-returns c = c .listed-line .ensures ∙ kind-listed _ _ _ Standing.Listed (sym (c .before .before .before .before .before .before .listed-kind .ensures ∙ ap listedKind (search needs)) ∙ c .before .before .before .before .before .if1 .taken) (sym (c .before .before .before .standing .ensures ∙ ap standingOf (search needs)) ∙ c .before .enum-told .given .1)
+returns c =
+    let c₁ = c .before in
+    let enum-told′ = c₁ .enum-told .given .1 in
+    let c₃ = c₁ .before .before in
+    let standing = c₃ .standing .ensures in
+    let c₅ = c₃ .before .before in
+    let if1 = c₅ .if1 .taken in
+    let c₆ = c₅ .before in
+    let listed-kind = c₆ .listed-kind .ensures in
+    c .listed-line .ensures ∙ kind-listed _ _ _ Standing.Listed (sym (listed-kind ∙ ap listedKind (search needs)) ∙ if1) (sym (standing ∙ ap standingOf (search needs)) ∙ enum-told′)
 
 returns-2 : tie.Need-returns-2
 unfolding sorted
-returns-2 c = c .listed-line2 .ensures ∙ kind-listed _ _ _ Standing.Message (sym (c .before .before .before .before .before .before .listed-kind .ensures ∙ ap listedKind (search needs)) ∙ c .before .before .before .before .before .if1 .taken) (sym (c .before .before .before .standing .ensures ∙ ap standingOf (search needs)) ∙ c .before .enum-told2 .given .1)
+returns-2 c =
+    let c₁ = c .before in
+    let enum-told2 = c₁ .enum-told2 .given .1 in
+    let c₃ = c₁ .before .before in
+    let standing = c₃ .standing .ensures in
+    let c₅ = c₃ .before .before in
+    let if1 = c₅ .if1 .taken in
+    let c₆ = c₅ .before in
+    let listed-kind = c₆ .listed-kind .ensures in
+    c .listed-line2 .ensures ∙ kind-listed _ _ _ Standing.Message (sym (listed-kind ∙ ap listedKind (search needs)) ∙ if1) (sym (standing ∙ ap standingOf (search needs)) ∙ enum-told2)
 
 returns-3 : tie.Need-returns-3
 unfolding sorted
-returns-3 c = kind-listed _ _ _ Standing.NotHandled (sym (c .before .before .before .before .before .listed-kind .ensures ∙ ap listedKind (search needs)) ∙ c .before .before .before .before .if1 .taken) (sym (c .before .before .standing .ensures ∙ ap standingOf (search needs)) ∙ c .enum-told3 .given .1)
+returns-3 c =
+    let c₂ = c .before .before in
+    let standing = c₂ .standing .ensures in
+    let c₄ = c₂ .before .before in
+    let if1 = c₄ .if1 .taken in
+    let c₅ = c₄ .before in
+    let listed-kind = c₅ .listed-kind .ensures in
+    kind-listed _ _ _ Standing.NotHandled (sym (listed-kind ∙ ap listedKind (search needs)) ∙ if1) (sym (standing ∙ ap standingOf (search needs)) ∙ c .enum-told3 .given .1)
 
 returns-4 : tie.Need-returns-4
 unfolding sorted
-returns-4 c = c .over .ensures ∙ kind-listed _ _ _ Standing.Unlisted (sym (c .before .before .before .before .before .before .listed-kind .ensures ∙ ap listedKind (search needs)) ∙ c .before .before .before .before .before .if1 .taken) (sym (c .before .before .before .standing .ensures ∙ ap standingOf (search needs)) ∙ c .before .enum-told4 .given .1)
+returns-4 c =
+    let c₁ = c .before in
+    let enum-told4 = c₁ .enum-told4 .given .1 in
+    let c₃ = c₁ .before .before in
+    let standing = c₃ .standing .ensures in
+    let c₅ = c₃ .before .before in
+    let if1 = c₅ .if1 .taken in
+    let c₆ = c₅ .before in
+    let listed-kind = c₆ .listed-kind .ensures in
+    c .over .ensures ∙ kind-listed _ _ _ Standing.Unlisted (sym (listed-kind ∙ ap listedKind (search needs)) ∙ if1) (sym (standing ∙ ap standingOf (search needs)) ∙ enum-told4)
 
 returns-5 : tie.Need-returns-5
 returns-5 c = c .over2 .ensures ∙ kind-unlisted _ _ _ (sym (c .before .before .listed-kind .ensures ∙ ap listedKind (search needs)) ∙ c .before .if1 .left)
