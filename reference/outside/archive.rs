@@ -1,6 +1,6 @@
 //! The static library behind a safe call. `include/cantuvesh.h` says what every argument means.
 
-use reference::Answer;
+use reference::{Answer, Inputs};
 
 unsafe extern "C" {
     fn cantuvesh_judge(
@@ -18,14 +18,8 @@ unsafe extern "C" {
 }
 
 /// Judges a trace by the static library. It takes slices of any length, so nothing is left to test.
-pub fn judge(
-    trace: &[u8],
-    latencies: &[u32],
-    choice: u32,
-    times: &mut [i64],
-    wanted: bool,
-    room: &mut [u8],
-) -> Answer {
+pub fn judge(call: Inputs) -> Answer {
+    let Inputs { trace, latencies, choice, times, wanted, room } = call;
     // SAFETY: each pointer comes with the length of its own slice, the two that are written to are
     // lent alone for the time of the call, and the answer is nine u64 in both declarations.
     unsafe {

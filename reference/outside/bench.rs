@@ -8,7 +8,7 @@
 mod archive;
 
 use reference::generator::workload::{self, Workload};
-use reference::{Answer, MAX_BYTES, MAX_RECORDS, judge};
+use reference::{Answer, Inputs, MAX_BYTES, MAX_RECORDS, judge};
 use std::env;
 use std::ffi::OsStr;
 use std::fs;
@@ -44,7 +44,7 @@ fn main() -> ExitCode {
 }
 
 /// What the two sides look like.
-type Judge = fn(&[u8], &[u32], u32, &mut [i64], bool, &mut [u8]) -> Answer;
+type Judge = fn(Inputs) -> Answer;
 
 /// The samples of one side, in microseconds.
 #[derive(Default)]
@@ -71,8 +71,8 @@ fn measure(workload: &Workload) -> Result<(), String> {
     let mut times = vec![0; MAX_RECORDS];
     let mut room = vec![0; MAX_BYTES + MAX_RECORDS];
     let mut call = |judge: Judge| -> Answer {
-        let Workload { trace, latencies, wanted, .. } = workload;
-        judge(trace, latencies, 2, &mut times, *wanted, &mut room)
+        let &Workload { ref trace, ref latencies, wanted, .. } = workload;
+        judge(Inputs { trace, latencies, choice: 2, times: &mut times, wanted, room: &mut room })
     };
     let (given, expected) = (call(archive::judge), call(judge));
     if given != expected {

@@ -59,30 +59,31 @@ pub enum Choice {
     Lenient,
 }
 
-/// Judges a trace. An accepted one leaves the corrected times in the first places of `times` and, if
-/// `wanted`, the written trace at the start of `room`; a refusal touches neither.
-pub fn judge(
-    trace: &[u8],
-    latencies: &[u32],
-    choice: u32,
-    times: &mut [i64],
-    wanted: bool,
-    room: &mut [u8],
-) -> Answer {
-    match accept(trace, latencies, choice, times, wanted, room) {
-        Ok(answer) => answer,
-        Err(Refusal { number, line }) => Answer { number, line, ..Answer::default() },
+/// What one call is given: a trace, a table and a choice, and what it may write to.
+pub struct Inputs<'a> {
+    pub trace: &'a [u8],
+    pub latencies: &'a [u32],
+    pub choice: u32,
+    pub times: &'a mut [i64],
+    pub wanted: bool,
+    pub room: &'a mut [u8],
+}
+
+impl Inputs<'_> {
+    /// The same call, lent on.
+    pub fn lent(&mut self) -> Inputs<'_> {
+        Inputs { times: self.times, room: self.room, ..*self }
     }
 }
 
-fn accept(
-    trace: &[u8],
-    latencies: &[u32],
-    choice: u32,
-    times: &mut [i64],
-    wanted: bool,
-    room: &mut [u8],
-) -> Result<Answer, Refusal> {
+/// Judges a trace. An accepted one leaves the corrected times in the first places of `times` and, if
+/// `wanted`, the written trace at the start of `room`; a refusal touches neither.
+pub fn judge(call: Inputs) -> Answer {
+    accept(call).unwrap_or_else(|Refusal { number, line }| Answer { number, line, ..Answer::default() })
+}
+
+fn accept(call: Inputs) -> Result<Answer, Refusal> {
+    let Inputs { trace, latencies, choice, times, wanted, room } = call;
     let choice = match choice {
         1 => Choice::Strict,
         2 => Choice::Lenient,

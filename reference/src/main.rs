@@ -7,7 +7,7 @@
 
 use reference::refusal::{CHOICE, LENGTH};
 use reference::report::{CANNOT_READ, report};
-use reference::{Answer, LATENCIES, MAX_BYTES, MAX_RECORDS, judge};
+use reference::{Answer, Inputs, LATENCIES, MAX_BYTES, MAX_RECORDS, judge};
 use std::env;
 use std::ffi::OsString;
 use std::fs;
@@ -39,7 +39,14 @@ fn main() -> ExitCode {
     let name = arguments.next();
     let mut times = vec![0; MAX_RECORDS];
     let mut room = vec![0; MAX_BYTES];
-    let answer = judge(&trace, &latencies, choice, &mut times, name.is_some(), &mut room);
+    let answer = judge(Inputs {
+        trace: &trace,
+        latencies: &latencies,
+        choice,
+        times: &mut times,
+        wanted: name.is_some(),
+        room: &mut room,
+    });
     print!("{}", report(&answer));
     if let Some(name) = name
         && answer.number == 0

@@ -1,8 +1,8 @@
 //! One judge held against another on a case: the answer, and every place of what was lent, the
 //! untouched ones and those around them among them.
 
-use crate::Answer;
 use crate::generator::Case;
+use crate::{Answer, Inputs};
 use std::collections::BTreeMap;
 use std::fmt;
 
@@ -46,11 +46,7 @@ pub struct Call {
 
 impl Call {
     /// Runs a judge on a case, with slices that stand where the case says.
-    pub fn run(
-        &mut self,
-        case: &Case,
-        judge: impl FnOnce(&[u8], &[u32], u32, &mut [i64], bool, &mut [u8]) -> Answer,
-    ) -> Answer {
+    pub fn run(&mut self, case: &Case, judge: impl FnOnce(Inputs) -> Answer) -> Answer {
         let mix = |place: usize| (case.seed ^ place as u64).wrapping_mul(0x9e37_79b9_7f4a_7c15);
         self.trace.prepare(case.offset, case.trace.len(), |place| mix(place) as u8);
         self.trace.slice().copy_from_slice(&case.trace);
@@ -58,14 +54,14 @@ impl Call {
         self.latencies.slice().copy_from_slice(&case.latencies);
         self.times.prepare(case.offset / 5, case.times, |place| mix(place) as i64);
         self.room.prepare(case.offset / 2, case.room, |place| (mix(place) >> 56) as u8);
-        judge(
-            self.trace.slice(),
-            self.latencies.slice(),
-            case.choice,
-            self.times.slice(),
-            case.wanted,
-            self.room.slice(),
-        )
+        judge(Inputs {
+            trace: self.trace.slice(),
+            latencies: self.latencies.slice(),
+            choice: case.choice,
+            times: self.times.slice(),
+            wanted: case.wanted,
+            room: self.room.slice(),
+        })
     }
 }
 

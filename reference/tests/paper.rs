@@ -5,7 +5,7 @@ mod common;
 use common::{LENIENT, STRICT, TRACE_A, TRACE_B, first_lines, judged, number, written};
 use reference::generator::flat_table;
 use reference::report::report;
-use reference::{Answer, LATENCIES, MAX_BYTES, MAX_LATENCY, MAX_RECORDS, judge};
+use reference::{Answer, Inputs, LATENCIES, MAX_BYTES, MAX_LATENCY, MAX_RECORDS, judge};
 
 const TABLE_20: &str = include_str!("data/table20");
 
@@ -131,7 +131,10 @@ fn a_time_that_may_not_pass_the_limit() {
 #[test]
 fn lengths_and_latencies() {
     let asked = |latencies: &[u32], times: usize| {
-        judge(b"", latencies, STRICT, &mut vec![0; times], false, &mut []).number
+        let mut times = vec![0; times];
+        let lent =
+            Inputs { trace: b"", latencies, choice: STRICT, times: &mut times, wanted: false, room: &mut [] };
+        judge(lent).number
     };
     assert_eq!(asked(&flat_table(MAX_LATENCY), MAX_RECORDS), 0);
     assert_eq!(asked(&flat_table(MAX_LATENCY + 1), MAX_RECORDS), 3);
@@ -159,7 +162,14 @@ fn room_that_just_fits() {
     for (length, expected) in [(TRACE_A.len() - 1, 16), (TRACE_A.len(), 0), (TRACE_A.len() + 3, 0)] {
         let mut times = vec![-7; MAX_RECORDS];
         let mut room = vec![b'#'; length];
-        let answer = judge(TRACE_A.as_bytes(), &flat_table(5), STRICT, &mut times, true, &mut room);
+        let answer = judge(Inputs {
+            trace: TRACE_A.as_bytes(),
+            latencies: &flat_table(5),
+            choice: STRICT,
+            times: &mut times,
+            wanted: true,
+            room: &mut room,
+        });
         assert_eq!(answer.number, expected);
         if expected == 0 {
             assert_eq!(answer.written, TRACE_A.len() as u64);

@@ -5,7 +5,7 @@ mod common;
 use common::{LENIENT, STRICT, TRACE_A, judged, number, written};
 use reference::generator::record::trace_of;
 use reference::generator::{flat_table, shape};
-use reference::{MAX_BYTES, MAX_RECORDS, judge};
+use reference::{Inputs, MAX_BYTES, MAX_RECORDS, judge};
 
 /// One line's refusal under lenient reading, 0 if it is taken or passed over.
 #[track_caller]
@@ -204,7 +204,14 @@ fn a_written_trace_too_long_to_be_read_again() {
     trace.push(b'\n');
     let mut times = vec![0; MAX_RECORDS];
     let mut room = vec![0; MAX_BYTES + 1];
-    let answer = judge(&trace, &flat_table(0), LENIENT, &mut times, true, &mut room);
+    let answer = judge(Inputs {
+        trace: &trace,
+        latencies: &flat_table(0),
+        choice: LENIENT,
+        times: &mut times,
+        wanted: true,
+        room: &mut room,
+    });
     assert_eq!((answer.verdict, answer.written), (2, 65_537));
     assert_eq!(number(&room, LENIENT), (4, 0));
 }
@@ -213,7 +220,8 @@ fn a_written_trace_too_long_to_be_read_again() {
 fn the_order_of_1_to_4() {
     let long = vec![b'x'; 65_537];
     let asked = |choice, latencies: &[u32], times: usize, trace: &[u8]| {
-        judge(trace, latencies, choice, &mut vec![0; times], true, &mut []).number
+        let mut times = vec![0; times];
+        judge(Inputs { trace, latencies, choice, times: &mut times, wanted: true, room: &mut [] }).number
     };
     assert_eq!(asked(0, &[], 0, &long), 1);
     assert_eq!(asked(1, &[u32::MAX], 2_048, &long), 2);

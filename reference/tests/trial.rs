@@ -2,12 +2,12 @@
 
 use reference::generator::Case;
 use reference::trial::{Call, Tally, difference};
-use reference::{Answer, Choice, PROCESSORS, judge, message, trace};
+use reference::{Answer, Choice, Inputs, PROCESSORS, judge, message, trace};
 
 const CASES: u64 = 2_000;
 
 /// Whether one of the first cases finds a judge out.
-fn found(wrong: impl Fn(&[u8], &[u32], u32, &mut [i64], bool, &mut [u8]) -> Answer) -> bool {
+fn found(wrong: impl Fn(Inputs) -> Answer) -> bool {
     let (mut ours, mut theirs) = (Call::default(), Call::default());
     (0..CASES).map(Case::from_seed).any(|case| {
         let expected = ours.run(&case, judge);
@@ -18,9 +18,9 @@ fn found(wrong: impl Fn(&[u8], &[u32], u32, &mut [i64], bool, &mut [u8]) -> Answ
 
 /// The same of a judge that spoils what the right one leaves behind.
 fn found_after(spoil: impl Fn(Answer, &mut [i64], &mut [u8]) -> Answer) -> bool {
-    found(|trace, latencies, choice, times, wanted, room| {
-        let answer = judge(trace, latencies, choice, times, wanted, room);
-        spoil(answer, times, room)
+    found(|mut call| {
+        let answer = judge(call.lent());
+        spoil(answer, call.times, call.room)
     })
 }
 
@@ -59,8 +59,9 @@ fn touched_room_is_found() {
         }
         answer
     }));
-    assert!(found(|trace, latencies, choice, times, wanted, room| {
-        let answer = judge(trace, latencies, choice, times, true, room);
+    assert!(found(|call| {
+        let wanted = call.wanted;
+        let answer = judge(Inputs { wanted: true, ..call });
         Answer { written: if wanted { answer.written } else { 0 }, ..answer }
     }));
 }
@@ -83,47 +84,41 @@ fn other_answers_are_found() {
         14 => Answer { line: answer.line + 1, ..answer },
         _ => answer,
     }));
-    assert!(found(|_, _, _, _, _, _| Answer { number: 5, line: 1, ..Answer::default() }));
+    assert!(found(|_| Answer { number: 5, line: 1, ..Answer::default() }));
 }
 
 #[test]
 fn shortcuts_are_found() {
     // Passing over -60.
-    assert!(found(|trace, latencies, choice, times, wanted, room| {
-        let mut changed = trace.to_vec();
+    assert!(found(|call| {
+        let mut changed = call.trace.to_vec();
         for start in 0..changed.len().saturating_sub(4) {
             if &changed[start..start + 5] == b" -60 " {
                 changed[start..start + 5].copy_from_slice(b" -81 ");
             }
         }
-        judge(&changed, latencies, choice, times, wanted, room)
+        judge(Inputs { trace: &changed, ..call })
     }));
     // The latency from receiver to sender.
-    assert!(found(|trace, latencies, choice, times, wanted, room| {
-        let mut turned = latencies.to_vec();
+    assert!(found(|call| {
+        let mut turned = call.latencies.to_vec();
         if turned.len() == PROCESSORS * PROCESSORS {
             for (place, entry) in turned.iter_mut().enumerate() {
-                *entry = latencies[place % PROCESSORS * PROCESSORS + place / PROCESSORS];
+                *entry = call.latencies[place % PROCESSORS * PROCESSORS + place / PROCESSORS];
             }
         }
-        judge(trace, &turned, choice, times, wanted, room)
+        judge(Inputs { latencies: &turned, ..call })
     }));
     assert!(found(one_pass));
 }
 
 /// Settles the times in a single pass in file order.
-fn one_pass(
-    trace: &[u8],
-    latencies: &[u32],
-    choice: u32,
-    times: &mut [i64],
-    wanted: bool,
-    room: &mut [u8],
-) -> Answer {
-    let answer = judge(trace, latencies, choice, times, wanted, room);
+fn one_pass(mut call: Inputs) -> Answer {
+    let answer = judge(call.lent());
     if answer.number != 0 {
         return answer;
     }
+    let Inputs { trace, latencies, times, .. } = call;
     let records = trace::read(trace, Choice::Lenient).unwrap().records;
     let send_of = message::pair(&records).unwrap().send_of;
     for (time, record) in times.iter_mut().zip(&records) {

@@ -16,7 +16,7 @@ pub mod shape;
 mod soup;
 pub mod workload;
 
-use crate::{Answer, LATENCIES, MAX_LATENCY, MAX_RECORDS, judge};
+use crate::{Answer, Inputs, LATENCIES, MAX_LATENCY, MAX_RECORDS, judge};
 use random::Random;
 
 /// One call, with the lengths of what is lent and how far each lent slice stands off its buffer's
@@ -67,7 +67,14 @@ impl Case {
     fn unhindered(&self) -> Answer {
         let mut room = vec![0; self.trace.len() + 16 * MAX_RECORDS];
         let mut times = vec![0; self.times];
-        judge(&self.trace, &self.latencies, self.choice, &mut times, true, &mut room)
+        judge(Inputs {
+            trace: &self.trace,
+            latencies: &self.latencies,
+            choice: self.choice,
+            times: &mut times,
+            wanted: true,
+            room: &mut room,
+        })
     }
 }
 

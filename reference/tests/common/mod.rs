@@ -1,7 +1,7 @@
 //! What the tests share: a judge with everything lent as it should be, and the sample traces.
 
 use reference::generator::flat_table;
-use reference::{Answer, MAX_BYTES, MAX_RECORDS, judge};
+use reference::{Answer, Inputs, MAX_BYTES, MAX_RECORDS, judge};
 
 pub const TRACE_A: &str = "\
 -3 -21 0.000010 0 0 3 2 8 1 1
@@ -26,7 +26,8 @@ pub const LENIENT: u32 = 2;
 /// The answer, and the places of the times that were touched.
 pub fn judged(trace: impl AsRef<[u8]>, latencies: &[u32], choice: u32) -> (Answer, Vec<i64>) {
     let mut times = vec![i64::MIN; MAX_RECORDS];
-    let answer = judge(trace.as_ref(), latencies, choice, &mut times, false, &mut []);
+    let trace = trace.as_ref();
+    let answer = judge(Inputs { trace, latencies, choice, times: &mut times, wanted: false, room: &mut [] });
     let touched = times.iter().rposition(|&time| time != i64::MIN).map_or(0, |last| last + 1);
     times.truncate(touched);
     (answer, times)
@@ -46,8 +47,14 @@ pub fn number(trace: impl AsRef<[u8]>, choice: u32) -> (u64, u64) {
 pub fn written(trace: impl AsRef<[u8]>, latency: u32) -> Vec<u8> {
     let mut times = vec![0; MAX_RECORDS];
     let mut room = vec![0; MAX_BYTES];
-    let latencies = flat_table(latency);
-    let answer = judge(trace.as_ref(), &latencies, LENIENT, &mut times, true, &mut room);
+    let answer = judge(Inputs {
+        trace: trace.as_ref(),
+        latencies: &flat_table(latency),
+        choice: LENIENT,
+        times: &mut times,
+        wanted: true,
+        room: &mut room,
+    });
     assert_eq!(answer.number, 0);
     room.truncate(answer.written as usize);
     room
