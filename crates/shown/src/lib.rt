@@ -1,5 +1,5 @@
-// One time written, in document 01's form of a time. What is written and how long it is is the crate paper's to say
-// (specs/Forms.antt, `timeShown`); the public functions take anything.
+// One time written, in document 01's form of a time. What stands there and how long it is, the crate paper says (specs/Forms.antt,
+// `timeShown`); the public functions take anything.
 mod write;
 
 ghost use mathlib.Core.Path.{_≡_};
