@@ -2,7 +2,9 @@
  *
  * Made by `rt staticlib ffi` as target/staticlib/libffi.a, for x86-64; link it after the objects
  * that call it. It needs no set-up, keeps nothing between calls, allocates nothing and may be
- * called from several threads at once, each with times and room of its own.
+ * called from several threads at once, each with times and room of its own. A call takes some
+ * 160,000 bytes of the calling thread's stack (155,128 as reference/stack measures it: at 2,048
+ * records, the written trace wanted).
  */
 #ifndef CANTUVESH_H
 #define CANTUVESH_H
@@ -22,9 +24,14 @@ extern "C" {
 #define CANTUVESH_LATENCY_LIMIT 1000000 /* the highest latency, in microseconds */
 #define CANTUVESH_TIMES 2048            /* the exact number of lent times; the most listed records */
 
-/* What `choice` may be. */
+/* What `asked.choice` may be. */
 #define CANTUVESH_STRICT 1  /* an unlisted line is refused */
 #define CANTUVESH_LENIENT 2 /* an unlisted line is passed over */
+
+/* What the caller names beside the trace and the table; nothing in it has a default. */
+struct cantuvesh_asked {
+    uint32_t choice; /* what to do with an unlisted line: one of the two above */
+};
 
 /* What `verdict` may be in an accepted answer; 0 in a refusal. */
 #define CANTUVESH_CONSISTENT 1       /* messages matched, and no time had to move */
@@ -47,7 +54,7 @@ struct cantuvesh_answer {
 /* Refusals, the first that holds in this order: 1 to 4; then 5 to 12 line by line, the first bad
  * line deciding; then the first receive in file order that calls for 13 or 14; then 15; then 16.
  *
- *    1  choice is neither 1 nor 2
+ *    1  asked.choice is neither 1 nor 2
  *    2  the latencies are not 4,096, or the times not 2,048
  *    3  a latency above 1,000,000, whether a message uses it or not
  *    4  a trace above 65,536 bytes
@@ -72,8 +79,8 @@ struct cantuvesh_answer {
  *     number of them: what is no good trace is refused.
  * latencies, latencies_len
  *     The least time that a message takes, in microseconds: the entry at 64 * sender + receiver.
- * choice
- *     CANTUVESH_STRICT or CANTUVESH_LENIENT.
+ * asked
+ *     What the caller names, by value: in asked.choice CANTUVESH_STRICT or CANTUVESH_LENIENT.
  * times, times_len
  *     Where an accepted trace's corrected times go, in microseconds and in file order of the listed
  *     records: times[0] to times[listed - 1]. All later places are left as they were, and every
@@ -95,7 +102,7 @@ struct cantuvesh_answer {
 struct cantuvesh_answer cantuvesh_judge(
     const uint8_t *trace, size_t trace_len,
     const uint32_t *latencies, size_t latencies_len,
-    uint32_t choice,
+    struct cantuvesh_asked asked,
     int64_t *times, size_t times_len,
     bool wanted,
     uint8_t *room, size_t room_len);

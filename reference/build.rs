@@ -1,19 +1,27 @@
-//! Links the two programs that call the static library with the archive that the environment names.
+//! Links the two programs that call the static library with the archive that the environment names, and
+//! bench with an older library, too, where the feature `before` asks for it.
 
 use std::env;
 
 fn main() {
     println!("cargo::rerun-if-changed=build.rs");
-    println!("cargo::rerun-if-env-changed=CANTUVESH_ARCHIVE");
-    if env::var_os("CARGO_FEATURE_ARCHIVE").is_none() {
-        return;
+    if env::var_os("CARGO_FEATURE_ARCHIVE").is_some() {
+        link("CANTUVESH_ARCHIVE", &["compare", "bench"]);
     }
-    let Ok(archive) = env::var("CANTUVESH_ARCHIVE") else {
-        println!("cargo::error=CANTUVESH_ARCHIVE must name the static library, as reference/compare does");
+    if env::var_os("CARGO_FEATURE_BEFORE").is_some() {
+        link("CANTUVESH_BEFORE", &["bench"]);
+    }
+}
+
+/// Links the file that this variable names.
+fn link(variable: &str, programs: &[&str]) {
+    println!("cargo::rerun-if-env-changed={variable}");
+    let Ok(file) = env::var(variable) else {
+        println!("cargo::error={variable} must name the library to link, as the scripts in reference/ do");
         return;
     };
-    println!("cargo::rerun-if-changed={archive}");
-    for program in ["compare", "bench"] {
-        println!("cargo::rustc-link-arg-bin={program}={archive}");
+    println!("cargo::rerun-if-changed={file}");
+    for program in programs {
+        println!("cargo::rustc-link-arg-bin={program}={file}");
     }
 }

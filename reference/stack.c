@@ -20,11 +20,12 @@ static size_t trace_len;
 static uint32_t latencies[CANTUVESH_LATENCIES];
 static int64_t times[CANTUVESH_TIMES];
 static uint8_t room[81920];
+static const struct cantuvesh_asked asked = {.choice = CANTUVESH_STRICT};
 static struct cantuvesh_answer answer;
 
 static void *call(void *unused)
 {
-    answer = cantuvesh_judge((const uint8_t *)trace, trace_len, latencies, CANTUVESH_LATENCIES, CANTUVESH_STRICT,
+    answer = cantuvesh_judge((const uint8_t *)trace, trace_len, latencies, CANTUVESH_LATENCIES, asked,
                              times, CANTUVESH_TIMES, true, room, sizeof room);
     return unused;
 }

@@ -56,10 +56,10 @@ fn main() -> ExitCode {
 
 fn show_failure(case: &Case, difference: &str, expected: &Answer) {
     println!("seed {} ({}): the reference, then the static library: {difference}", case.seed, case.kind);
-    let Case { choice, times, wanted, room, offset, .. } = case;
+    let Case { asked, times, wanted, room, offset, .. } = case;
     let latencies = case.latencies.len();
     let call = format!(
-        "seed {}\nchoice {choice}\nlatencies {latencies}\ntimes {times}\nwanted {wanted}\nroom {room}\n\
+        "seed {}\nasked {asked:?}\nlatencies {latencies}\ntimes {times}\nwanted {wanted}\nroom {room}\n\
          offset {offset}\nexpected {expected:?}\n{difference}\n",
         case.seed
     );

@@ -52,6 +52,15 @@ pub struct Answer {
     pub written: u64,
 }
 
+/// What the caller names beside the trace and the table, in the static library's order; nothing in it
+/// has a default.
+#[repr(C)]
+#[derive(Clone, Copy, Debug, PartialEq, Eq)]
+pub struct Asked {
+    /// 1 strict, 2 lenient.
+    pub choice: u32,
+}
+
 /// Whether unlisted lines are refused or passed over.
 #[derive(Clone, Copy, Debug, PartialEq, Eq)]
 pub enum Choice {
@@ -59,11 +68,11 @@ pub enum Choice {
     Lenient,
 }
 
-/// What one call is given: a trace, a table and a choice, and what it may write to.
+/// What one call is given: a trace, a table and what is asked, and what it may write to.
 pub struct Inputs<'a> {
     pub trace: &'a [u8],
     pub latencies: &'a [u32],
-    pub choice: u32,
+    pub asked: Asked,
     pub times: &'a mut [i64],
     pub wanted: bool,
     pub room: &'a mut [u8],
@@ -83,8 +92,8 @@ pub fn judge(call: Inputs) -> Answer {
 }
 
 fn accept(call: Inputs) -> Result<Answer, Refusal> {
-    let Inputs { trace, latencies, choice, times, wanted, room } = call;
-    let choice = match choice {
+    let Inputs { trace, latencies, asked, times, wanted, room } = call;
+    let choice = match asked.choice {
         1 => Choice::Strict,
         2 => Choice::Lenient,
         _ => return Err(Refusal::of_all(refusal::CHOICE)),

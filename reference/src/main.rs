@@ -7,7 +7,7 @@
 
 use reference::refusal::{CHOICE, LENGTH};
 use reference::report::{CANNOT_READ, report};
-use reference::{Answer, Inputs, LATENCIES, MAX_BYTES, MAX_RECORDS, judge};
+use reference::{Answer, Asked, Inputs, LATENCIES, MAX_BYTES, MAX_RECORDS, judge};
 use std::env;
 use std::ffi::OsString;
 use std::fs;
@@ -42,7 +42,7 @@ fn main() -> ExitCode {
     let answer = judge(Inputs {
         trace: &trace,
         latencies: &latencies,
-        choice,
+        asked: Asked { choice },
         times: &mut times,
         wanted: name.is_some(),
         room: &mut room,

@@ -57,7 +57,7 @@ impl Call {
         judge(Inputs {
             trace: self.trace.slice(),
             latencies: self.latencies.slice(),
-            choice: case.choice,
+            asked: case.asked,
             times: self.times.slice(),
             wanted: case.wanted,
             room: self.room.slice(),

@@ -5,7 +5,7 @@ mod common;
 use common::{LENIENT, STRICT, TRACE_A, TRACE_B, first_lines, judged, number, written};
 use reference::generator::flat_table;
 use reference::report::report;
-use reference::{Answer, Inputs, LATENCIES, MAX_BYTES, MAX_LATENCY, MAX_RECORDS, judge};
+use reference::{Answer, Asked, Inputs, LATENCIES, MAX_BYTES, MAX_LATENCY, MAX_RECORDS, judge};
 
 const TABLE_20: &str = include_str!("data/table20");
 
@@ -78,7 +78,7 @@ fn p8_p9_times_about_zero() {
 
 #[test]
 fn p10_choice_3() {
-    assert_eq!(number(TRACE_A, 3), (1, 0));
+    assert_eq!(number(TRACE_A, Asked { choice: 3 }), (1, 0));
 }
 
 #[test]
@@ -130,18 +130,18 @@ fn a_time_that_may_not_pass_the_limit() {
 
 #[test]
 fn lengths_and_latencies() {
-    let asked = |latencies: &[u32], times: usize| {
+    let number_of = |latencies: &[u32], times: usize| {
         let mut times = vec![0; times];
         let lent =
-            Inputs { trace: b"", latencies, choice: STRICT, times: &mut times, wanted: false, room: &mut [] };
+            Inputs { trace: b"", latencies, asked: STRICT, times: &mut times, wanted: false, room: &mut [] };
         judge(lent).number
     };
-    assert_eq!(asked(&flat_table(MAX_LATENCY), MAX_RECORDS), 0);
-    assert_eq!(asked(&flat_table(MAX_LATENCY + 1), MAX_RECORDS), 3);
-    assert_eq!(asked(&[0; LATENCIES - 1], MAX_RECORDS), 2);
-    assert_eq!(asked(&[u32::MAX; LATENCIES + 1], MAX_RECORDS), 2);
-    assert_eq!(asked(&flat_table(0), MAX_RECORDS - 1), 2);
-    assert_eq!(asked(&flat_table(0), MAX_RECORDS + 1), 2);
+    assert_eq!(number_of(&flat_table(MAX_LATENCY), MAX_RECORDS), 0);
+    assert_eq!(number_of(&flat_table(MAX_LATENCY + 1), MAX_RECORDS), 3);
+    assert_eq!(number_of(&[0; LATENCIES - 1], MAX_RECORDS), 2);
+    assert_eq!(number_of(&[u32::MAX; LATENCIES + 1], MAX_RECORDS), 2);
+    assert_eq!(number_of(&flat_table(0), MAX_RECORDS - 1), 2);
+    assert_eq!(number_of(&flat_table(0), MAX_RECORDS + 1), 2);
 }
 
 #[test]
@@ -165,7 +165,7 @@ fn room_that_just_fits() {
         let answer = judge(Inputs {
             trace: TRACE_A.as_bytes(),
             latencies: &flat_table(5),
-            choice: STRICT,
+            asked: STRICT,
             times: &mut times,
             wanted: true,
             room: &mut room,

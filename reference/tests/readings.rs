@@ -5,7 +5,7 @@ mod common;
 use common::{LENIENT, STRICT, TRACE_A, judged, number, written};
 use reference::generator::record::trace_of;
 use reference::generator::{flat_table, shape};
-use reference::{Inputs, MAX_BYTES, MAX_RECORDS, judge};
+use reference::{Asked, Inputs, MAX_BYTES, MAX_RECORDS, judge};
 
 /// One line's refusal under lenient reading, 0 if it is taken or passed over.
 #[track_caller]
@@ -207,7 +207,7 @@ fn a_written_trace_too_long_to_be_read_again() {
     let answer = judge(Inputs {
         trace: &trace,
         latencies: &flat_table(0),
-        choice: LENIENT,
+        asked: LENIENT,
         times: &mut times,
         wanted: true,
         room: &mut room,
@@ -219,17 +219,18 @@ fn a_written_trace_too_long_to_be_read_again() {
 #[test]
 fn the_order_of_1_to_4() {
     let long = vec![b'x'; 65_537];
-    let asked = |choice, latencies: &[u32], times: usize, trace: &[u8]| {
+    let number_of = |choice, latencies: &[u32], times: usize, trace: &[u8]| {
         let mut times = vec![0; times];
-        judge(Inputs { trace, latencies, choice, times: &mut times, wanted: true, room: &mut [] }).number
+        let asked = Asked { choice };
+        judge(Inputs { trace, latencies, asked, times: &mut times, wanted: true, room: &mut [] }).number
     };
-    assert_eq!(asked(0, &[], 0, &long), 1);
-    assert_eq!(asked(1, &[u32::MAX], 2_048, &long), 2);
-    assert_eq!(asked(1, &flat_table(u32::MAX), 0, &long), 2);
-    assert_eq!(asked(2, &flat_table(u32::MAX), 2_048, &long), 3);
-    assert_eq!(asked(2, &flat_table(0), 2_048, &long), 4);
-    assert_eq!(asked(2, &flat_table(0), 2_048, b"x"), 5);
-    assert_eq!(asked(2, &flat_table(0), 0, b""), 2);
+    assert_eq!(number_of(0, &[], 0, &long), 1);
+    assert_eq!(number_of(1, &[u32::MAX], 2_048, &long), 2);
+    assert_eq!(number_of(1, &flat_table(u32::MAX), 0, &long), 2);
+    assert_eq!(number_of(2, &flat_table(u32::MAX), 2_048, &long), 3);
+    assert_eq!(number_of(2, &flat_table(0), 2_048, &long), 4);
+    assert_eq!(number_of(2, &flat_table(0), 2_048, b"x"), 5);
+    assert_eq!(number_of(2, &flat_table(0), 0, b""), 2);
 }
 
 #[test]

@@ -9,11 +9,11 @@ use borrow.Author.Tests.{eqb-true, eq-eqb}
 use lib.Dec.{eqb}
 use lib.ListN.{length, getD, set, replicate, length-set, length-replicate, getD-replicate}
 use lib.Seq.{getD-set-same, getD-set-other}
-use lib.IntN.{ℤ}
 use Rattle.side.specs.declared.Key.{Key}
 use Rattle.side.specs.declared.Side.{Side}
 use Rattle.side.specs.declared.Side.the-variants.{Neither, Sends, Receives}
 use Rattle.side.specs.Sides.{sideAt, sendsIn, bucketOf}
+use Rattle.store.specs.Layout.{tooMany}
 use Rattle.chains.specs.Chains.{Filled, First, sendIn, Chained}
 use Rattle.chains.proofs.Walks.{first-here, first-earlier}
 
@@ -21,10 +21,11 @@ pub filled-with : (v : ℕ) → Filled (replicate 1024 v) v
 filled-with v = record { buckets = length-replicate 1024 v; each = λ b h. getD-replicate 1024 b v 0 h }
 
 -- nothing is chained yet
-pub chain-begins : (l : List ℤ) (link heads : List ℕ) → Filled heads (length link)
+pub chain-begins : (l : List ℕ) (link heads : List ℕ) → length link < tooMany → Filled heads (length link)
     → Chained l (length link) link heads (length link)
-chain-begins l link heads e =
+chain-begins l link heads few e =
     record {
+      few = few;
       size = refl;
       buckets = e .buckets;
       head = λ b h.
@@ -33,11 +34,12 @@ chain-begins l link heads e =
       linked = λ j b a m. absurd (omega arith);
     }
 
-module _ (l : List ℤ) (n : ℕ) (link heads : List ℕ) (i : ℕ) (m : i < n) (h : Chained l n link heads (i + 1)) where
+module _ (l : List ℕ) (n : ℕ) (link heads : List ℕ) (i : ℕ) (m : i < n) (h : Chained l n link heads (i + 1)) where
   -- a record that is no send
   pub chain-none : ((b : ℕ) → sendIn l b i ≡ false) → Chained l n link heads i
   chain-none out =
       record {
+        few = h .few;
         size = h .size;
         buckets = h .buckets;
         head = λ b g. first-earlier (sendIn l b) i n (getD heads b 0) (out b) (h .head b g);
@@ -74,6 +76,7 @@ module _ (l : List ℤ) (n : ℕ) (link heads : List ℕ) (i : ℕ) (m : i < n) 
     pub chain-send : Chained l n (set link i (getD heads b 0)) (set heads b i) i
     chain-send =
         record {
+          few = h .few;
           size = simp length-set (h .size);
           buckets = simp length-set (h .buckets);
           head = λ c g. head-of c g (eqb b c) refl;
@@ -81,7 +84,7 @@ module _ (l : List ℤ) (n : ℕ) (link heads : List ℕ) (i : ℕ) (m : i < n) 
         }
 
 -- which bucket a record's side is in
-module _ (l : List ℤ) (i : ℕ) {side : Side} (e : side ≡ sideAt l i) where
+module _ (l : List ℕ) (i : ℕ) {side : Side} (e : side ≡ sideAt l i) where
   pub neither-sends : side ≡ Neither → (b : ℕ) → sendIn l b i ≡ false
   neither-sends f b = ap (sendsIn b) (sym e ∙ f)
 

@@ -10,7 +10,6 @@ use mathlib.Core.Option.{Option, none, some, Option·getD}
 use mathlib.Core.List.{List}
 use borrow.Author.Tests.{lt-ltb, le-ltb}
 use lib.ListN.{length, getD, take}
-use lib.IntN.{ℤ}
 use lib.Dec.{ltb}
 use Rattle.paper.specs.Matching.{isSendOf, isReceiveOf, countIf, sendPlace, entryAt, sendOf}
 use Rattle.paper.specs.declared.Entry.{Entry}
@@ -56,14 +55,14 @@ none-behind p n k o r a b e = sym (ap (λ (o : Option ℕ). Option·getD o n) (n
 
 -- ---- the entries of a store
 
-module _ (l : List ℤ) (n : ℕ) where
+module _ (l : List ℕ) (n : ℕ) where
   -- the send of an entry is by its side
   pub send-side : (i : ℕ) → i < n → sendOf (entriesIn l n) i ≡ sendBy (entriesIn l n) i (sideAt l i)
   unfolding sendOf sideAt
   send-side i h =
       rw (entry-in l n i h) (send-for-side (entriesIn l n) i (entryFrom l i .body .processor) (entryFrom l i .body .role))
 
-module _ (l : List ℤ) (n : ℕ) (key : Key) where
+module _ (l : List ℕ) (n : ℕ) (key : Key) where
   -- the sends and the receives under the key
   abbrev sent : ℕ → Bool
   sent = sendAt (keyOf key) (entriesIn l n)
@@ -99,7 +98,7 @@ module _ (l : List ℤ) (n : ℕ) (key : Key) where
 
 -- ---- the three steps together
 
-module _ (l : List ℤ) (sends link : List ℕ) (key : Key) (head from : ℕ) (h : Ready l sends link (bucketOf key) head from) where
+module _ (l : List ℕ) (sends link : List ℕ) (key : Key) (head from : ℕ) (h : Ready l sends link (bucketOf key) head from) where
   abbrev n : ℕ
   n = length link
 

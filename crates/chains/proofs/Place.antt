@@ -10,7 +10,6 @@ use borrow.Author.Tests.{eqb-true, eq-eqb}
 use lib.Dec.{eqb}
 use lib.ListN.{length, getD, set, length-set}
 use lib.Seq.{getD-set-same, getD-set-other}
-use lib.IntN.{ℤ}
 use Rattle.paper.specs.Matching.{sendOf}
 use Rattle.paper.specs.declared.Entry.{Entry}
 use Rattle.store.specs.Layout.{entriesIn}
@@ -28,7 +27,7 @@ use Rattle.chains.proofs.Found.{send-side, same-behind}
 use Rattle.chains.proofs.Chain.{receive-sends}
 
 -- no receive is seen yet
-pub place-begins : (l : List ℤ) (n : ℕ) (sends link heads seen : List ℕ) → length sends ≡ n → Chained l n link heads 0
+pub place-begins : (l : List ℕ) (n : ℕ) (sends link heads seen : List ℕ) → length sends ≡ n → Chained l n link heads 0
     → Filled seen 0
     → Placing l n sends link heads seen 0
 place-begins l n sends link heads seen size h e =
@@ -52,7 +51,7 @@ after-set P xs i v l below at j h = go (decLt j i)
     go (yes g) = rw (getD-set-other xs i j v 0 (λ z. absurd (omega arith))) (below j g)
     go (no g) = let z : j ≡ i = omega arith in rw (z, getD-set-same xs i v 0 l) at
 
-module _ (l : List ℤ) (n : ℕ) (sends link heads seen : List ℕ) (i : ℕ) (m : i < n) (h : Placing l n sends link heads seen i) where
+module _ (l : List ℕ) (n : ℕ) (sends link heads seen : List ℕ) (i : ℕ) (m : i < n) (h : Placing l n sends link heads seen i) where
   placed-more : (v : ℕ) → v ≡ Option·getD (sendOf (entriesIn l n) i) n → Placed l n (set sends i v) (i + 1)
   placed-more v e = after-set (λ j x. x ≡ Option·getD (sendOf (entriesIn l n) j) n) sends i v (omega (arith, h .size)) (h .placed) e
 
@@ -94,6 +93,7 @@ module _ (l : List ℤ) (n : ℕ) (sends link heads seen : List ℕ) (i : ℕ) (
     search-ready =
         let n-is : length link ≡ n = h .chained .size in
         record {
+          few = rw n-is (h .chained .few);
           size = h .size ∙ sym n-is;
           first = rw n-is (h .chained .head b (bucket-low k));
           linked = rw n-is (h .chained .linked);
@@ -135,6 +135,7 @@ module _ (l : List ℤ) (n : ℕ) (sends link heads seen : List ℕ) (i : ℕ) (
         record {
           size = simp length-set (h .size);
           chained = record {
+            few = h .chained .few;
             size = simp length-set (h .chained .size);
             buckets = h .chained .buckets;
             head = h .chained .head;

@@ -25,7 +25,7 @@ module _ (es : List Entry) where
   length-places = length-listed (length es) (λ i. Option·getD (sendOf es i) (length es))
 
   module _ (i : ℕ) (m : i < length es) where
-    pub place-at : getD (placesOf es) i 0 ≡ Option·getD (sendOf es i) (length es)
+    place-at : getD (placesOf es) i 0 ≡ Option·getD (sendOf es i) (length es)
     unfolding placesOf
     place-at = listed-at (length es) (λ i. Option·getD (sendOf es i) (length es)) i 0 m
 

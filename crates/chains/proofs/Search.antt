@@ -6,7 +6,6 @@ use mathlib.Core.Bool.{false}
 use mathlib.Core.List.{List}
 use borrow.Author.Tests.{lt-ltb, le-ltb}
 use lib.ListN.{length, getD}
-use lib.IntN.{ℤ}
 use Rattle.side.specs.declared.Key.{Key}
 use Rattle.side.specs.Sides.{bucketOf, sendUnder, receiveUnder}
 use Rattle.side.proofs.Buckets.{no-send-in, no-receive-in}
@@ -15,10 +14,10 @@ use Rattle.chains.proofs.Walks.{Going, goes-on, Going-back, goes-back}
 
 -- ---- forwards
 
-abbrev pub Forwards : List ℤ → List ℕ → Key → ℕ → ℕ → Type 0
+abbrev pub Forwards : List ℕ → List ℕ → Key → ℕ → ℕ → Type 0
 Forwards l link key at s = Going (sendUnder l key) (sendIn l (bucketOf key)) (length link) at s
 
-module _ (l : List ℤ) (link : List ℕ) (key : Key) (at : ℕ) (h : Forward l link (bucketOf key) at) where
+module _ (l : List ℕ) (link : List ℕ) (key : Key) (at : ℕ) (h : Forward l link (bucketOf key) at) where
   pub forward-begins : Forwards l link key at at
   forward-begins = record { low = omega arith; high = h .upto; none = λ k a b. absurd (omega arith); on = h .here }
 
@@ -34,10 +33,10 @@ module _ (l : List ℤ) (link : List ℕ) (key : Key) (at : ℕ) (h : Forward l 
 
 -- ---- backwards
 
-abbrev pub Backwards : List ℤ → Key → ℕ → ℕ → Type 0
+abbrev pub Backwards : List ℕ → Key → ℕ → ℕ → Type 0
 Backwards l key from s = Going-back (receiveUnder l key) (receiveIn l (bucketOf key)) from s
 
-module _ (l : List ℤ) (link : List ℕ) (key : Key) (from : ℕ) (h : Backward l link (bucketOf key) from) where
+module _ (l : List ℕ) (link : List ℕ) (key : Key) (from : ℕ) (h : Backward l link (bucketOf key) from) where
   pub backward-begins : Backwards l key from from
   backward-begins = record { high = omega arith; none = λ k a b. absurd (omega arith); on = h .here }
 

@@ -4,7 +4,7 @@
 ghost use mathlib.Core.Path.{_≡_};
 ghost use Prim.Native.Nat.{_+_, _<_, _≤_};
 ghost use lib.ListN.{length, replicate};
-ghost use Rattle.store.specs.Layout.{entriesIn};
+ghost use Rattle.store.specs.Layout.{tooMany, entriesIn};
 ghost use Rattle.side.specs.Sides.{keyOf, bucketOf, sendUnder, receiveUnder};
 ghost use Rattle.chains.specs.Places.{places, found};
 ghost use Rattle.chains.specs.Chains.{Filled, First, Last, Chained, Placing, Forward, Backward, Ready, startFrom, sendUnderAt};
@@ -14,7 +14,7 @@ use side::Side;
 // ---- the search for one send
 
 // The first send under the key from `at` on, along the chain of its bucket.
-fn next_send(store: &[i64], link: &[usize], at: usize, key: Key) -> usize
+fn next_send(store: &[u32], link: &[u32], at: usize, key: Key) -> usize
     requires { ⌜ Forward (now store) (now link) (bucketOf key) at ⌝ }
     ensures { λ r. ⌜ First (sendUnder (now (store .entry)) key) (length (now (link .entry))) at r ⌝ }
 {
@@ -23,63 +23,57 @@ fn next_send(store: &[i64], link: &[usize], at: usize, key: Key) -> usize
         if side::send_under(store, s, key) {
             return s;
         }
-        s = link[s];
+        s = link[s] as usize;
     }
     s
 }
 
 // The last receive under the key before place `from`, as its place and one, along the chain of its bucket.
-fn prior_receive(store: &[i64], link: &[usize], from: usize, key: Key) -> usize
+fn prior_receive(store: &[u32], link: &[u32], from: u32, key: Key) -> usize
     requires { ⌜ Backward (now store) (now link) (bucketOf key) from ⌝ }
     ensures { λ r. ⌜ Last (receiveUnder (now (store .entry)) key) from r ⌝ }
 {
-    let mut p = from;
+    let mut p = from as usize;
     while 0 < p {
         let at = p - 1;
         if side::receive_under(store, at, key) {
             return p;
         }
-        p = link[at];
+        p = link[at] as usize;
     }
     0
 }
 
 // Where the search starts: at the head of the bucket, or behind the send of the receive before.
-fn start_from(sends: &[usize], link: &[usize], head: usize, prior: usize) -> usize
+fn start_from(sends: &[u32], link: &[u32], head: u32, prior: usize) -> usize
     requires { ⌜ prior ≤ length (now sends) ⌝ }
     ensures { λ r. ⌜ r ≡ startFrom (now (sends .entry)) (now (link .entry)) head prior ⌝ }
 {
     if prior == 0 {
-        return head;
+        return head as usize;
     }
-    let s = sends[prior - 1];
+    let s = sends[prior - 1] as usize;
     if s < link.len() {
-        return link[s];
+        return link[s] as usize;
     }
     link.len()
 }
 
 // The send of a receive under the key that stands behind the receives before place `from`.
-fn send_behind(
-    store: &[i64],
-    sends: &[usize],
-    link: &[usize],
-    head: usize,
-    from: usize,
-    key: Key,
-) -> usize
+fn send_behind(store: &[u32], sends: &[u32], link: &[u32], head: u32, from: u32, key: Key) -> u32
     requires { ⌜ Ready (now store) (now sends) (now link) (bucketOf key) head from ⌝ }
     ensures { λ r. ⌜ r ≡ sendUnderAt (entriesIn (now (store .entry)) (length (now (link .entry)))) (keyOf key) from ⌝ }
 {
     let prior = prior_receive(store, link, from, key);
     let start = start_from(sends, link, head, prior);
-    next_send(store, link, start, key)
+    let s = next_send(store, link, start, key);
+    s as u32
 }
 
 // ---- the two passes
 
 // Puts record i in front of the chain of its bucket, where it is a send.
-fn chain_one(store: &[i64], link: &mut [usize], heads: &mut [usize], i: usize)
+fn chain_one(store: &[u32], link: &mut [u32], heads: &mut [u32], i: usize)
     requires { ⌜ (i < length (now link)) × Chained (now store) (length (now link)) (now link) (now heads) (i + 1) ⌝ }
     ensures { λ r. ⌜ Chained (now (store .entry)) (length (now (link .entry))) (now (link .exit)) (now (heads .exit)) i ⌝ }
 {
@@ -89,15 +83,15 @@ fn chain_one(store: &[i64], link: &mut [usize], heads: &mut [usize], i: usize)
         Side::Sends(key) => {
             let b = side::bucket_of(key);
             link[i] = heads[b];
-            heads[b] = i;
+            heads[b] = i as u32;
         }
         Side::Receives(_) => {}
     }
 }
 
 // Chains the sends, from the last record to the first.
-fn chain_sends(store: &[i64], link: &mut [usize], heads: &mut [usize])
-    requires { ⌜ Filled (now heads) (length (now link)) ⌝ }
+fn chain_sends(store: &[u32], link: &mut [u32], heads: &mut [u32])
+    requires { ⌜ (length (now link) < tooMany) × Filled (now heads) (length (now link)) ⌝ }
     ensures { λ r. ⌜ Chained (now (store .entry)) (length (now (link .entry))) (now (link .exit)) (now (heads .exit)) 0 ⌝ }
 {
     let mut i = link.len();
@@ -109,11 +103,11 @@ fn chain_sends(store: &[i64], link: &mut [usize], heads: &mut [usize])
 
 // Finds the send of record i, where it is a receive, and puts it at the end of the chain of its bucket.
 fn place_one(
-    store: &[i64],
-    sends: &mut [usize],
-    link: &mut [usize],
-    heads: &[usize],
-    seen: &mut [usize],
+    store: &[u32],
+    sends: &mut [u32],
+    link: &mut [u32],
+    heads: &[u32],
+    seen: &mut [u32],
     i: usize,
 )
     requires { ⌜ (i < length (now sends)) × Placing (now store) (length (now sends)) (now sends) (now link) (now heads) (now seen) i ⌝ }
@@ -122,30 +116,25 @@ fn place_one(
     let side = side::side_at(store, i);
     match side {
         Side::Neither => {
-            sends[i] = sends.len();
+            sends[i] = sends.len() as u32;
         }
         Side::Sends(_) => {
-            sends[i] = sends.len();
+            sends[i] = sends.len() as u32;
         }
         Side::Receives(key) => {
             let b = side::bucket_of(key);
             let from = seen[b];
             let s = send_behind(store, sends, link, heads[b], from, key);
+            let behind = (i + 1) as u32;
             sends[i] = s;
             link[i] = from;
-            seen[b] = i + 1;
+            seen[b] = behind;
         }
     }
 }
 
 // Places the sends, from the first record to the last.
-fn place_sends(
-    store: &[i64],
-    sends: &mut [usize],
-    link: &mut [usize],
-    heads: &[usize],
-    seen: &mut [usize],
-)
+fn place_sends(store: &[u32], sends: &mut [u32], link: &mut [u32], heads: &[u32], seen: &mut [u32])
     requires { ⌜ Placing (now store) (length (now sends)) (now sends) (now link) (now heads) (now seen) 0 ⌝ }
     ensures { λ r. ⌜ Placing (now (store .entry)) (length (now (sends .entry))) (now (sends .exit)) (now (link .exit)) (now (heads .entry)) (now (seen .exit)) (length (now (sends .entry))) ⌝ }
 {
@@ -157,13 +146,13 @@ fn place_sends(
 }
 
 // One number for each bucket.
-fn each_bucket(v: usize) -> [usize; 1024]
+fn each_bucket(v: u32) -> [u32; 1024]
     ensures { λ r. ⌜ Filled r v ⌝ }
 {
     [v; 1024]
 }
 
-fn clear(link: &mut [usize])
+fn clear(link: &mut [u32])
     ensures { λ r. ⌜ now (link .exit) ≡ replicate (length (now (link .entry))) 0 ⌝ }
 {
     let mut i: usize = 0;
@@ -174,14 +163,17 @@ fn clear(link: &mut [usize])
 }
 
 // Puts the place of each record's send, and clears the links, which are room for the work: as many as the places. Where they are
-// not, nothing is touched.
-pub fn find_sends(store: &[i64], sends: &mut [usize], link: &mut [usize])
+// not, or the places are too many, nothing is touched.
+pub fn find_sends(store: &[u32], sends: &mut [u32], link: &mut [u32])
     ensures { λ r. ⌜ places (now (sends .exit)) (now (link .exit)) ≡ found (now (store .entry)) (now (sends .entry)) (now (link .entry)) ⌝ }
 {
     if link.len() != sends.len() {
         return;
     }
-    let mut heads = each_bucket(sends.len());
+    if store::TOO_MANY <= sends.len() {
+        return;
+    }
+    let mut heads = each_bucket(sends.len() as u32);
     chain_sends(store, link, &mut heads);
     let mut seen = each_bucket(0);
     place_sends(store, sends, link, &heads, &mut seen);

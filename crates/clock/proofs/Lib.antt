@@ -1,6 +1,7 @@
 -- The laws that the engine's proofs cite.
 pub mod Tests
 pub mod Waiting
+pub mod Rising
 pub mod Filling
 pub mod Turning
 pub mod Going

@@ -4,7 +4,6 @@ use native.Mathlib.Omega.{arith}
 use mathlib.Core.Path.{_≡_}
 use mathlib.Core.Option.{none, some}
 use mathlib.Core.List.{List}
-use lib.ListN.{length}
 use lib.IntN.{ℤ, pos, negsuc, _+ℤ_}
 use lib.Signed.{mag, _≤ℤ_}
 use lib.Dec.{ltb, leb→le, ltb→lt}
@@ -31,11 +30,6 @@ pub closed : (originals : List ℤ) (before send latency : List ℕ) → Closed 
 unfolding waitsOf
 closed originals before send latency i j v i< (on-before e) = place-in _ _ j e
 closed originals before send latency i j v i< (on-send e) = place-in _ _ j e
-
--- and are as many
-pub inside : (originals : List ℤ) (before send latency : List ℕ) (i : ℕ) → i < length originals → i < waitsOf originals before send latency .size
-unfolding waitsOf
-inside originals before send latency i l = l
 
 -- a time within the limit and any latency fit a signed 64-bit sum
 pub sum-fits : (z : ℤ) (v : ℕ) → mag z < 2 ^ 63 → z ≤ℤ limit → v < 2 ^ 32 → mag (z +ℤ pos v) < 2 ^ 63

@@ -12,6 +12,7 @@ use Rattle.clock.specs.declared.Turn.{Turn}
 use Rattle.clock.specs.declared.Turn.the-variants.{Over, Same, Moved}
 use Rattle.clock.specs.declared.Run.{Run}
 use Rattle.clock.specs.declared.Run.the-variants.{At, Never}
+use Rattle.clock.specs.Promise.{waitsOf}
 
 -- whether P holds of every number below i
 abbrev pub Told : Bool → (ℕ → Type 0) → ℕ → Type 0
@@ -26,37 +27,32 @@ Within xs k = timeAt xs k ≤ℤ limit
 abbrev pub Low : List ℤ → Type 0
 Low xs = Told true (Within xs) (length xs)
 
--- as many of each as there are records
-pub record Sized (originals : List ℤ) (before send latency : List ℕ) : Type 0 where
-  pub befores : length before ≡ length originals
-  pub sends : length send ≡ length originals
-  pub latencies : length latency ≡ length originals
+-- as many of each as there are times
+pub record Sized (before send latency : List ℕ) (times spare : List ℤ) : Type 0 where
+  pub befores : length before ≡ length times
+  pub sends : length send ≡ length times
+  pub latencies : length latency ≡ length times
+  pub spares : length spare ≡ length times
 
--- times of n records from which a next round can be computed
-pub record Ready (n : ℕ) (xs : List ℤ) : Type 0 where
-  pub size : length xs ≡ n
-  pub low : Low xs
+-- the times of the round after the times xs, which stand for the originals too
+unfoldable pub following : (before send latency : List ℕ) → List ℤ → ℕ → ℤ
+following before send latency xs i = next (waitsOf xs before send latency) (timeAt xs) i
 
--- what the round after the times xs, put into ys, does
-unfoldable pub Turned : Waits → List ℤ → Turn → List ℤ → Type 0
-Turned w xs Over ys = Told false (λ k. next w (timeAt xs) k ≤ℤ limit) (w .size)
-Turned w xs Same ys = Told true (λ k. next w (timeAt xs) k ≡ timeAt xs k) (w .size) × (ys ≡ xs)
-Turned w xs Moved ys =
-    Told false (λ k. next w (timeAt xs) k ≡ timeAt xs k) (w .size)
-    × ((k : ℕ) → k < w .size → timeAt ys k ≡ next w (timeAt xs) k) × Ready (w .size) ys
-
--- the originals put into a slice, and whether none is above the limit
-pub record Started (originals : List ℤ) (low : Bool) (to : List ℤ) : Type 0 where
-  pub holds : to ≡ originals
-  pub tells : Told low (Within originals) (length originals)
+-- what a round by this rule does that is made after the times xs and put into ys
+unfoldable pub Turned : (List ℤ → ℕ → ℤ) → List ℤ → Turn → List ℤ → Type 0
+Turned rule xs Over ys = Told false (λ k. rule xs k ≤ℤ limit) (length xs)
+Turned rule xs Same ys = Told true (λ k. rule xs k ≡ timeAt xs k) (length xs) × (ys ≡ xs)
+Turned rule xs Moved ys =
+    Told false (λ k. rule xs k ≡ timeAt xs k) (length xs)
+    × ((k : ℕ) → k < length xs → (timeAt ys k ≡ rule xs k) × Within ys k) × (length ys ≡ length xs)
 
 -- which of the two slices holds a round; the next one goes into the other
 abbrev pub front : Bool → List ℤ → List ℤ → List ℤ
 front first times spare = cond first times spare
 
-pub record Stepped (w : Waits) (first : Bool) (times spare : List ℤ) (turn : Turn) (times′ spare′ : List ℤ) : Type 0 where
+pub record Stepped (rule : List ℤ → ℕ → ℤ) (first : Bool) (times spare : List ℤ) (turn : Turn) (times′ spare′ : List ℤ) : Type 0 where
   pub kept : front first times′ spare′ ≡ front first times spare
-  pub turned : Turned w (front first times spare) turn (front (not first) times′ spare′)
+  pub turned : Turned rule (front first times spare) turn (front (not first) times′ spare′)
 
 -- how the rounds ended
 unfoldable pub Ended : Waits → Run → (times spare : List ℤ) → Type 0

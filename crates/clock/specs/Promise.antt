@@ -3,8 +3,8 @@ use Prim.Native.Nat.{ℕ}
 use mathlib.Core.Option.{Option, none, some}
 use mathlib.Core.List.{List, [], _∷_}
 use mathlib.Core.Bool.{Bool, true, false, cond}
-use lib.ListN.{length, getD}
-use lib.IntN.{ℤ}
+use lib.ListN.{length, getD, replicate}
+use lib.IntN.{ℤ, pos}
 use lib.Dec.{ltb, eqb}
 use Rattle.paper.specs.Clock as paper
 use Rattle.paper.specs.Clock.{Waits, timeAt, settled, impossible}
@@ -36,13 +36,14 @@ unfoldable pub allAre : ℕ → List ℕ → Bool
 allAre n [] = true
 allAre n (m ∷ ms) = cond (eqb m n) (allAre n ms) false
 
--- the paper's answer in both slices; where there is none, the originals
-unfoldable pub answered : List ℤ → paper.Settled → Outcome
-answered originals impossible = outcome Impossible originals originals
-answered originals (settled k xs) = outcome (Rounds k) xs xs
+-- the paper's answer for n records in both slices; where there is none, both are cleared
+unfoldable pub answered : ℕ → paper.Settled → Outcome
+answered n impossible = outcome Impossible (replicate n (pos 0)) (replicate n (pos 0))
+answered n (settled k xs) = outcome (Rounds k) xs xs
 
-unfoldable pub outcomeOf : List ℤ → (before send latency : List ℕ) → (times spare : List ℤ) → Outcome
-outcomeOf originals before send latency times spare =
-    cond (allAre (length originals) (length before ∷ length send ∷ length latency ∷ length times ∷ length spare ∷ []))
-    (answered originals (paper.settle (waitsOf originals before send latency)))
+-- the originals are what `times` holds
+unfoldable pub outcomeOf : (before send latency : List ℕ) → (times spare : List ℤ) → Outcome
+outcomeOf before send latency times spare =
+    cond (allAre (length times) (length before ∷ length send ∷ length latency ∷ length spare ∷ []))
+    (answered (length times) (paper.settle (waitsOf times before send latency)))
     (outcome Misfit times spare)

@@ -1,13 +1,15 @@
 // The engine of the clock condition: round after round over the lent slices until one repeats. specs/ says what a call leaves
-// behind, in terms of the paper's `settle`.
+// behind, in terms of the paper's `settle`. No table of originals is kept: rounds rise, so that the largest of a record's own time,
+// its predecessor's and its send's plus latency is the paper's next time (proofs/Rising.antt).
 ghost use Prim.Native.Nat.{_<_};
 ghost use mathlib.Core.Path.{_≡_};
 ghost use mathlib.Core.List.{[], _∷_};
-ghost use lib.ListN.{length};
+ghost use lib.ListN.{length, replicate};
+ghost use lib.IntN.{pos};
 ghost use Rattle.paper.specs.Clock as paper;
-ghost use Rattle.paper.specs.Clock.{timeAt, waited, next};
+ghost use Rattle.paper.specs.Clock.{timeAt, waited};
 ghost use Rattle.clock.specs.Promise.{place, waitsOf, outcome, answered, outcomeOf, allAre};
-ghost use Rattle.clock.specs.Inner.{Low, Sized, Ready, Turned, Started, Stepped, front, Ended};
+ghost use Rattle.clock.specs.Inner.{Told, Within, Low, Sized, following, Turned, front, Stepped, Ended};
 
 // The largest time that the format holds.
 const LIMIT: i64 = 999_999_999_999_999;
@@ -15,7 +17,7 @@ const LIMIT: i64 = 999_999_999_999_999;
 pub enum Settled {
     // the times are in both slices, after so many rounds
     Rounds(usize),
-    // no times exist; both slices hold the originals
+    // no times exist; both slices are cleared
     Impossible,
     // the slices are not of one length
     Misfit,
@@ -41,54 +43,40 @@ fn later(a: i64, b: i64) -> i64
 }
 
 // `a`, or the time of the record at `j` plus the weight, where there is one and that is later.
-fn after(from: &[i64], j: usize, weight: u32, a: i64) -> i64
+fn after(from: &[i64], j: u32, weight: u32, a: i64) -> i64
     requires { ⌜ Low (now from) ⌝ }
     ensures { λ r. ⌜ r ≡ waited (timeAt (now (from .entry))) (place (length (now (from .entry))) j) weight a ⌝ }
 {
-    if j < from.len() {
-        let sent = from[j];
+    let at = j as usize;
+    if at < from.len() {
+        let sent = from[at];
         let arrived = sent + (weight as i64);
         return later(a, arrived);
     }
     a
 }
 
-// The next time of record `i`.
-fn next_at(
-    originals: &[i64],
-    before: &[usize],
-    send: &[usize],
-    latency: &[u32],
-    from: &[i64],
-    i: usize,
-) -> i64
-    requires { ⌜ Sized (now originals) (now before) (now send) (now latency) ⌝ }
-    requires { ⌜ Ready (length (now originals)) (now from) ⌝ }
-    requires { ⌜ i < length (now originals) ⌝ }
-    ensures { λ r. ⌜ r ≡ next (waitsOf (now (originals .entry)) (now (before .entry)) (now (send .entry)) (now (latency .entry))) (timeAt (now (from .entry))) i ⌝ }
+// The next time of record `i`, from its own time on.
+fn next_at(before: &[u32], send: &[u32], latency: &[u32], from: &[i64], i: usize) -> i64
+    requires { ⌜ Low (now from) ⌝ }
+    requires { ⌜ Sized (now before) (now send) (now latency) (now from) (now from) ⌝ }
+    requires { ⌜ i < length (now from) ⌝ }
+    ensures { λ r. ⌜ r ≡ following (now (before .entry)) (now (send .entry)) (now (latency .entry)) (now (from .entry)) i ⌝ }
 {
-    let a = after(from, before[i], 0, originals[i]);
+    let a = after(from, before[i], 0, from[i]);
     after(from, send[i], latency[i], a)
 }
 
 // Into `to` the round after `from`.
-fn round(
-    originals: &[i64],
-    before: &[usize],
-    send: &[usize],
-    latency: &[u32],
-    from: &[i64],
-    to: &mut [i64],
-) -> Turn
-    requires { ⌜ Sized (now originals) (now before) (now send) (now latency) ⌝ }
-    requires { ⌜ Ready (length (now originals)) (now from) ⌝ }
-    requires { ⌜ length (now to) ≡ length (now originals) ⌝ }
-    ensures { λ r. ⌜ Turned (waitsOf (now (originals .entry)) (now (before .entry)) (now (send .entry)) (now (latency .entry))) (now (from .entry)) r (now (to .exit)) ⌝ }
+fn round(before: &[u32], send: &[u32], latency: &[u32], from: &[i64], to: &mut [i64]) -> Turn
+    requires { ⌜ Low (now from) ⌝ }
+    requires { ⌜ Sized (now before) (now send) (now latency) (now from) (now to) ⌝ }
+    ensures { λ r. ⌜ Turned (following (now (before .entry)) (now (send .entry)) (now (latency .entry))) (now (from .entry)) r (now (to .exit)) ⌝ }
 {
     let mut same = true;
     let mut i = 0;
-    while i < originals.len() {
-        let time = next_at(originals, before, send, latency, from, i);
+    while i < from.len() {
+        let time = next_at(before, send, latency, from, i);
         if time > LIMIT {
             return Turn::Over;
         }
@@ -104,19 +92,16 @@ fn round(
     Turn::Moved
 }
 
-// Puts the originals into `to`, and says whether none is above the limit.
-fn start(originals: &[i64], to: &mut [i64]) -> bool
-    requires { ⌜ length (now to) ≡ length (now originals) ⌝ }
-    ensures { λ r. ⌜ Started (now (originals .entry)) r (now (to .exit)) ⌝ }
+// Whether no time is above the limit.
+fn all_low(times: &[i64]) -> bool
+    ensures { λ r. ⌜ Told r (Within (now (times .entry))) (length (now (times .entry))) ⌝ }
 {
     let mut low = true;
     let mut i = 0;
-    while i < originals.len() {
-        let time = originals[i];
-        if time > LIMIT {
+    while i < times.len() {
+        if times[i] > LIMIT {
             low = false;
         }
-        to[i] = time;
         i += 1;
     }
     low
@@ -125,126 +110,122 @@ fn start(originals: &[i64], to: &mut [i64]) -> bool
 // A round from `times` into `spare`, or back.
 fn step(
     first: bool,
-    originals: &[i64],
-    before: &[usize],
-    send: &[usize],
+    before: &[u32],
+    send: &[u32],
     latency: &[u32],
     times: &mut [i64],
     spare: &mut [i64],
 ) -> Turn
-    requires { ⌜ Sized (now originals) (now before) (now send) (now latency) ⌝ }
-    requires { ⌜ Ready (length (now originals)) (front first (now times) (now spare)) ⌝ }
-    requires { ⌜ length (now times) ≡ length (now originals) ⌝ }
-    requires { ⌜ length (now spare) ≡ length (now originals) ⌝ }
-    ensures { λ r. ⌜ Stepped (waitsOf (now (originals .entry)) (now (before .entry)) (now (send .entry)) (now (latency .entry))) first (now (times .entry)) (now (spare .entry)) r (now (times .exit)) (now (spare .exit)) ⌝ }
+    requires { ⌜ Low (front first (now times) (now spare)) ⌝ }
+    requires { ⌜ Sized (now before) (now send) (now latency) (now times) (now spare) ⌝ }
+    ensures { λ r. ⌜ Stepped (following (now (before .entry)) (now (send .entry)) (now (latency .entry))) first (now (times .entry)) (now (spare .entry)) r (now (times .exit)) (now (spare .exit)) ⌝ }
 {
     if first {
-        return round(originals, before, send, latency, times, spare);
+        return round(before, send, latency, times, spare);
     }
-    round(originals, before, send, latency, spare, times)
+    round(before, send, latency, spare, times)
 }
 
 // The first round that the next one repeats.
 fn rounds(
-    originals: &[i64],
-    before: &[usize],
-    send: &[usize],
+    before: &[u32],
+    send: &[u32],
     latency: &[u32],
     times: &mut [i64],
     spare: &mut [i64],
 ) -> Run
-    requires { ⌜ Sized (now originals) (now before) (now send) (now latency) ⌝ }
-    requires { ⌜ length (now times) ≡ length (now originals) ⌝ }
-    requires { ⌜ length (now spare) ≡ length (now originals) ⌝ }
-    ensures { λ r. ⌜ Ended (waitsOf (now (originals .entry)) (now (before .entry)) (now (send .entry)) (now (latency .entry))) r (now (times .exit)) (now (spare .exit)) ⌝ }
+    requires { ⌜ Sized (now before) (now send) (now latency) (now times) (now spare) ⌝ }
+    ensures { λ r. ⌜ Ended (waitsOf (now (times .entry)) (now (before .entry)) (now (send .entry)) (now (latency .entry))) r (now (times .exit)) (now (spare .exit)) ⌝ }
 {
-    if !start(originals, times) {
+    if !all_low(times) {
         return Run::Never;
     }
     let mut first = true;
     let mut k = 0;
     loop {
-        let turn = step(first, originals, before, send, latency, times, spare);
+        let turn = step(first, before, send, latency, times, spare);
         match turn {
             Turn::Over => return Run::Never,
             Turn::Same => return Run::At(k),
             Turn::Moved => k += 1,
         }
-        if k >= originals.len() {
+        if k >= times.len() {
             return Run::Never;
         }
         first = !first;
     }
 }
 
-// The answer into both slices; where there is none, the originals.
+fn clear(times: &mut [i64])
+    ensures { λ r. ⌜ now (times .exit) ≡ replicate (length (now (times .entry))) (pos 0) ⌝ }
+{
+    let mut i = 0;
+    while i < times.len() {
+        times[i] = 0;
+        i += 1;
+    }
+}
+
+// The answer into both slices; where there is none, nothing is left in them.
 fn answer(
-    originals: &[i64],
-    before: &[usize],
-    send: &[usize],
+    before: &[u32],
+    send: &[u32],
     latency: &[u32],
     times: &mut [i64],
     spare: &mut [i64],
 ) -> Settled
-    requires { ⌜ Sized (now originals) (now before) (now send) (now latency) ⌝ }
-    requires { ⌜ length (now times) ≡ length (now originals) ⌝ }
-    requires { ⌜ length (now spare) ≡ length (now originals) ⌝ }
-    ensures { λ r. ⌜ outcome r (now (times .exit)) (now (spare .exit)) ≡ answered (now (originals .entry)) (paper.settle (waitsOf (now (originals .entry)) (now (before .entry)) (now (send .entry)) (now (latency .entry)))) ⌝ }
+    requires { ⌜ Sized (now before) (now send) (now latency) (now times) (now spare) ⌝ }
+    ensures { λ r. ⌜ outcome r (now (times .exit)) (now (spare .exit)) ≡ answered (length (now (times .entry))) (paper.settle (waitsOf (now (times .entry)) (now (before .entry)) (now (send .entry)) (now (latency .entry)))) ⌝ }
 {
-    let run = rounds(originals, before, send, latency, times, spare);
+    let run = rounds(before, send, latency, times, spare);
     match run {
         Run::At(k) => Settled::Rounds(k),
         Run::Never => {
-            start(originals, times);
-            start(originals, spare);
+            clear(times);
+            clear(spare);
             Settled::Impossible
         },
     }
 }
 
-// Whether all the lengths are n.
-fn fit(n: usize, before: usize, send: usize, latency: usize, times: usize, spare: usize) -> bool
-    ensures { λ r. ⌜ r ≡ allAre n (before ∷ send ∷ latency ∷ times ∷ spare ∷ []) ⌝ }
+// Whether all four lengths are n.
+pub fn all_are(n: usize, first: usize, second: usize, third: usize, fourth: usize) -> bool
+    ensures { λ r. ⌜ r ≡ allAre n (first ∷ second ∷ third ∷ fourth ∷ []) ⌝ }
 {
-    if before != n {
+    if first != n {
         return false;
     }
-    if send != n {
+    if second != n {
         return false;
     }
-    if latency != n {
+    if third != n {
         return false;
     }
-    if times != n {
-        return false;
-    }
-    if spare != n {
+    if fourth != n {
         return false;
     }
     true
 }
 
-// The least sound times of the records whose originals are lent, into `times` and `spare`. Record i waits for the record at
+// The least sound times of the records whose originals are in `times`, into `times` and `spare`. Record i waits for the record at
 // before[i], the one before it on its processor, and for its send at send[i] with latency[i]; a place past the end is none.
 pub fn settle(
-    originals: &[i64],
-    before: &[usize],
-    send: &[usize],
+    before: &[u32],
+    send: &[u32],
     latency: &[u32],
     times: &mut [i64],
     spare: &mut [i64],
 ) -> Settled
-    ensures { λ r. ⌜ outcome r (now (times .exit)) (now (spare .exit)) ≡ outcomeOf (now (originals .entry)) (now (before .entry)) (now (send .entry)) (now (latency .entry)) (now (times .entry)) (now (spare .entry)) ⌝ }
+    ensures { λ r. ⌜ outcome r (now (times .exit)) (now (spare .exit)) ≡ outcomeOf (now (before .entry)) (now (send .entry)) (now (latency .entry)) (now (times .entry)) (now (spare .entry)) ⌝ }
 {
-    if fit(
-        originals.len(),
+    if all_are(
+        times.len(),
         before.len(),
         send.len(),
         latency.len(),
-        times.len(),
         spare.len(),
     ) {
-        return answer(originals, before, send, latency, times, spare);
+        return answer(before, send, latency, times, spare);
     }
     Settled::Misfit
 }

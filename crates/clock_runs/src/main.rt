@@ -1,12 +1,13 @@
 // Runs the engine on document 01's sample traces, on rings and chains and at the limit, and prints each answer: the rounds and
 // the times, all of them where they are few, else the last.
-ghost use Prim.Native.Nat.{_<_};
+ghost use Prim.Native.Nat.{_<_, _≤_};
+ghost use lib.ListN.{length};
 use clock::Settled;
 use libc::STDOUT_FILENO;
 
 const SIZE: usize = 2048;
 
-const NONE: usize = 2048;
+const NONE: u32 = 2048;
 
 fn word(text: &[u8]) {
     io::write_all(STDOUT_FILENO, text);
@@ -52,41 +53,26 @@ fn show(answer: Settled, times: &[i64]) {
     }
 }
 
-fn answered(
-    originals: &[i64],
-    before: &[usize],
-    send: &[usize],
-    latency: &[u32],
-    times: &mut [i64],
-    spare: &mut [i64],
-) {
-    let answer = clock::settle(originals, before, send, latency, times, spare);
+fn answered(before: &[u32], send: &[u32], latency: &[u32], times: &mut [i64], spare: &mut [i64]) {
+    let answer = clock::settle(before, send, latency, times, spare);
     show(answer, times);
 }
 
-fn run(name: &[u8], originals: &[i64], before: &[usize], send: &[usize], latency: &[u32]) {
-    let mut times = [0i64; SIZE];
+fn run(name: &[u8], times: &mut [i64], before: &[u32], send: &[u32], latency: &[u32]) {
     let mut spare = [0i64; SIZE];
-    let n = originals.len();
+    let n = times.len();
     if n > SIZE {
         return;
     }
     word(name);
-    answered(
-        originals,
-        before,
-        send,
-        latency,
-        &mut times[0..n],
-        &mut spare[0..n],
-    );
+    answered(before, send, latency, times, &mut spare[0..n]);
 }
 
 // Trace A, all latencies the same, and its first three lines.
 fn trace_a(name: &[u8], latency: u32) {
     run(
         name,
-        &[10, 12, 9, 11, 13],
+        &mut [10, 12, 9, 11, 13],
         &[NONE, 0, NONE, 2, 1],
         &[NONE, NONE, 0, NONE, 3],
         &[latency; 5],
@@ -96,7 +82,7 @@ fn trace_a(name: &[u8], latency: u32) {
 fn first_three(name: &[u8]) {
     run(
         name,
-        &[10, 12, 9],
+        &mut [10, 12, 9],
         &[NONE, 0, NONE],
         &[NONE, NONE, 0],
         &[5; 3],
@@ -107,7 +93,7 @@ fn first_three(name: &[u8]) {
 fn trace_b(name: &[u8], latency: u32) {
     run(
         name,
-        &[1, 2, 3, 4],
+        &mut [1, 2, 3, 4],
         &[NONE, 0, NONE, 2],
         &[3, NONE, 1, NONE],
         &[0, 0, latency, 0],
@@ -117,7 +103,7 @@ fn trace_b(name: &[u8], latency: u32) {
 fn turned_b(name: &[u8]) {
     run(
         name,
-        &[3, 4, 1, 2],
+        &mut [3, 4, 1, 2],
         &[NONE, 0, NONE, 2],
         &[3, NONE, 1, NONE],
         &[0; 4],
@@ -125,43 +111,44 @@ fn turned_b(name: &[u8]) {
 }
 
 // Every second record from `first` on waits for the one before it.
-fn links(to: &mut [usize], first: usize)
+fn links(to: &mut [u32], first: usize)
     requires { ⌜ 0 < first ⌝ }
+    requires { ⌜ length (now to) ≤ 2048 ⌝ }
 {
     let mut i = first;
     while i < to.len() {
-        to[i] = i - 1;
+        to[i] = (i - 1) as u32;
         i += 2;
     }
 }
 
 // Each of 64 processors receives from the last one and then sends to the next.
 fn ring(name: &[u8], latency: u32) {
-    let mut originals = [0i64; 128];
+    let mut times = [0i64; 128];
     let mut before = [NONE; 128];
     let mut send = [NONE; 128];
-    originals[127] = 9;
+    times[127] = 9;
     links(&mut before, 1);
     links(&mut send, 2);
     send[0] = 127;
-    run(name, &originals, &before, &send, &[latency; 128]);
+    run(name, &mut times, &before, &send, &[latency; 128]);
 }
 
 // One processor whose first time is late.
 fn chain(name: &[u8]) {
-    let mut originals = [0i64; SIZE];
+    let mut times = [0i64; SIZE];
     let mut before = [NONE; SIZE];
-    originals[0] = 7;
+    times[0] = 7;
     links(&mut before, 1);
     links(&mut before, 2);
-    run(name, &originals, &before, &[NONE; SIZE], &[0; SIZE]);
+    run(name, &mut times, &before, &[NONE; SIZE], &[0; SIZE]);
 }
 
 // The largest time, and a message that takes so long.
 fn limit(name: &[u8], latency: u32) {
     run(
         name,
-        &[999_999_999_999_999, 999_999_999_999_999],
+        &mut [999_999_999_999_999, 999_999_999_999_999],
         &[NONE, NONE],
         &[NONE, 0],
         &[0, latency],
@@ -172,7 +159,7 @@ fn limit(name: &[u8], latency: u32) {
 fn lowest(name: &[u8]) {
     run(
         name,
-        &[5, -9_223_372_036_854_775_808],
+        &mut [5, -9_223_372_036_854_775_808],
         &[NONE, NONE],
         &[NONE, 0],
         &[0, 2],
@@ -180,12 +167,12 @@ fn lowest(name: &[u8]) {
 }
 
 fn empty(name: &[u8]) {
-    run(name, &[], &[], &[], &[]);
+    run(name, &mut [], &[], &[], &[]);
 }
 
 // A send too few.
 fn misfit(name: &[u8]) {
-    run(name, &[1, 2], &[NONE, 0], &[NONE], &[0, 0]);
+    run(name, &mut [1, 2], &[NONE, 0], &[NONE], &[0, 0]);
 }
 
 fn samples() {

@@ -10,7 +10,7 @@ use lib.IntN.{pos}
 use Rattle.paper.specs.Clock.{timeAt}
 use Rattle.paper.specs.Reading.{linesOf, start}
 use Rattle.paper.specs.Matching.{matchedCount, unreceivedCount, waitsOf}
-use Rattle.paper.specs.Answer.{Inputs, Outcome, judge, accepted, written as bytes}
+use Rattle.paper.specs.Answer.{Inputs, Outcome, given, most, judge, accepted, written as bytes}
 use Rattle.paper.specs.declared.Choice.{Choice}
 use Rattle.matching.proofs.Counts.{counts-add}
 use Rattle.reading.proofs.Along.{Reads, along}
@@ -83,12 +83,12 @@ module _ (i : Inputs) (a : Accepted i) where
   unfolding accepted
   passed-is = ap (λ (o : Outcome). o .answer .passed) (judge-accepted i a)
 
-  pub along-trace : Reads (a .choice) 2048 (linesOf (i .trace)) 1 start (entries i (a .choice)) (reading i (a .choice) .state)
-  along-trace = along (a .choice) 2048 (i .trace) (a .matched .read .whole)
+  pub along-trace : Reads (a .choice) (most (given i)) (linesOf (i .trace)) 1 start (entries i (a .choice)) (reading i (a .choice) .state)
+  along-trace = along (a .choice) (most (given i)) (i .trace) (a .matched .read .whole)
 
   passed-lines : reading i (a .choice) .state .passed ≡ passedIn (a .choice) (linesOf (i .trace))
   unfolding start
-  passed-lines = omega (arith, passed-along (a .choice) 2048 along-trace)
+  passed-lines = omega (arith, passed-along (a .choice) (most (given i)) along-trace)
 
   pub rounds-are : rounds i ≡ a .rounds
   unfolding accepted
@@ -99,7 +99,7 @@ module _ (i : Inputs) (a : Accepted i) where
   told =
       record {
         no-line = ap (λ (o : Outcome). o .answer .line) (judge-accepted i a);
-        records = records-along (a .choice) 2048 along-trace;
+        records = records-along (a .choice) (most (given i)) along-trace;
         lists = listed-is i a;
         passes = passed-is ∙ passed-lines;
         matches = matched-is;
@@ -111,7 +111,7 @@ module _ (i : Inputs) (a : Accepted i) where
         moves = verdict-is .moves;
         consistent = rw matched-is (verdict-is .consistent);
         places = rw (times-are i a, length-append, length-drop)
-            (omega (arith, a .matched .read .begun .lengths .1, size i a, few-entries (a .choice) 2048 (i .trace) (a .matched .read .whole)));
+            (omega (arith, a .matched .read .begun .lengths .1, size i a, few-entries (a .choice) (most (given i)) (i .trace) (a .matched .read .whole)));
         later = later;
         writes = rw corrected-are written-trace;
         after = rw (room-is, written-is) (drop-at word _ (length word) refl);

@@ -10,7 +10,7 @@ use lib.Signed.{<ℤ-irrefl}
 use Rattle.paper.specs.Clock.{timeAt}
 use Rattle.paper.specs.Reading.{State, Reading, linesOf, readOf, start}
 use Rattle.paper.specs.Written.{writtenFrom}
-use Rattle.paper.specs.Answer.{Inputs, written as bytes}
+use Rattle.paper.specs.Answer.{Inputs, given, most, longest, written as bytes}
 use Rattle.paper.specs.declared.Choice.{Choice}
 use Rattle.paper.specs.declared.Entry.{Entry}
 use Rattle.paper.specs.declared.Stop.the-variants.{End}
@@ -21,6 +21,7 @@ use Rattle.demands.specs.Steps.{Chosen, reading, entries, Accepted, orig
 use Rattle.demands.specs.Demand3.{Allowed}
 use Rattle.demands.specs.Accepted.{Moved}
 use Rattle.demands.specs.Demand2.{SameButStamps, Again, Steady}
+use Rattle.demands.proofs.Tests.{same-most}
 use Rattle.demands.proofs.InOrder.{originals-range, originals-place}
 use Rattle.demands.proofs.Allowed.{sound-allowed, still}
 use Rattle.demands.proofs.Times.{one-choice, answer, size, listed-is, time-is}
@@ -49,15 +50,15 @@ module _ (i : Inputs) (a : Accepted i) where
   rise : Rises (start .last) es (a .times)
   rise =
       let whole = a .matched .read .whole in
-      rises es (a .times) (size i a) (originals-place choice 2048 (i .trace) whole)
-      (λ k l. between (original es k) (timeAt (a .times) k) (originals-range choice 2048 (i .trace) whole k l) (allowed .above k l) (allowed .format k l))
+      rises es (a .times) (size i a) (originals-place choice (most (given i)) (i .trace) whole)
+      (λ k l. between (original es k) (timeAt (a .times) k) (originals-range choice (most (given i)) (i .trace) whole k l) (allowed .above k l) (allowed .format k l))
       (allowed .order)
 
-  read-again : (st : State) × (readOf choice 2048 written-bytes ≡ record { stop = End; entries = withTimes es (a .times); state = st })
+  read-again : (st : State) × (readOf choice (most (given i)) written-bytes ≡ record { stop = End; entries = withTimes es (a .times); state = st })
       × (st .passed ≡ reading i choice .state .passed)
   read-again =
       let (st, reads, passed) = reread (along-trace i a) (clean-lines (i .trace)) (a .times) start refl refl rise in
-      (st, along-back choice 2048 written-bytes reads, passed)
+      (st, along-back choice (most (given i)) written-bytes reads, passed)
 
   written-again : writtenFrom choice (linesOf written-bytes) (a .times) ≡ written-bytes
   written-again = rewritten (along-trace i a) (clean-lines (i .trace)) (start .last) (a .times) rise
@@ -75,12 +76,16 @@ stamps-only i a wanted choice c =
     rw (one-choice i choice (a .choice) c (a .matched .read .begun .chosen), corrected-are i a, written-trace i a, asked i wanted (a .choice) (a .times))
     (same-but-stamps (along-trace i a) (clean-lines (i .trace)) (a .times) (size i a))
 
-module _ (i : Inputs) (a : Accepted i) (wanted : i .wanted ≡ true) (short : written i ≤ 65536) (j : Inputs) (g : Again i j) where
+module _ (i : Inputs) (a : Accepted i) (wanted : i .wanted ≡ true) (short : written i ≤ longest) (j : Inputs) (g : Again i j) where
   trace-is : j .trace ≡ written-bytes i a
   trace-is = g .trace ∙ written-trace i a ∙ asked i wanted (a .choice) (a .times)
 
+  same-limit : most (given j) ≡ most (given i)
+  same-limit = same-most (given j) (given i) (g .places)
+
   reading-is : reading j (a .choice) ≡ record { stop = End; entries = withTimes (es i a) (a .times); state = read-again i a .0 }
-  reading-is = ap (readOf (a .choice) 2048) trace-is ∙ read-again i a .1
+  reading-is =
+      ap (λ (n : ℕ). readOf (a .choice) n (j .trace)) same-limit ∙ ap (readOf (a .choice) (most (given i))) trace-is ∙ read-again i a .1
 
   entries-are : entries j (a .choice) ≡ withTimes (es i a) (a .times)
   entries-are = ap (λ (r : Reading). r .entries) reading-is
@@ -108,8 +113,8 @@ module _ (i : Inputs) (a : Accepted i) (wanted : i .wanted ≡ true) (short : wr
         matched = record {
           read = record {
             begun = record {
-              chosen = rw (g .choice) (m .read .begun .chosen);
-              lengths = (rw (g .latencies) (m .read .begun .lengths .0), g .places);
+              chosen = rw (g .asked) (m .read .begun .chosen);
+              lengths = (rw (g .latencies) (m .read .begun .lengths .0), g .places ∙ m .read .begun .lengths .1 ∙ sym same-limit);
               low = rw (g .latencies) (m .read .begun .low);
               short = rw (g .trace, written-length i a) short;
             };
@@ -117,7 +122,7 @@ module _ (i : Inputs) (a : Accepted i) (wanted : i .wanted ≡ true) (short : wr
           };
           matches = same-matched (entries j (a .choice)) (es i a) alike-entries ∙ m .matches;
         };
-        settles = rw (g .latencies, entries-are) (written-settle (i .latencies) (es i a) (a .times) (size i a) (allowed i a));
+        settles = rw (entries-are, g .latencies) (written-settle (i .latencies) (es i a) (a .times) (size i a) (allowed i a));
         room = room-again _ refl;
       }
 

@@ -28,7 +28,7 @@ module _ (table : List ℕ) (es : List Entry) where
   -- "the entry at 64 times sender plus receiver"
   latency-at : (j k : ℕ) → sendOf es k ≡ some j → latencyFor table (processorAt es k) (roleAt es k) ≡ getD table (64 * processorAt es j + processorAt es k) 0
   unfolding latencyFor
-  latency-at j k e = let b = belongs es k j e in rw (b .receives, b .sender)
+  latency-at j k e = let b = belongs es k j e in rw (b .receives, b .from)
 
   pub allowed-sound : {x : ℕ → ℤ} → Allowed table es x → Sound (waitsOf table es) x
   unfolding waitsOf

@@ -86,21 +86,21 @@ in-unlisted : (choice : Choice) (h : Head) (fields : Option (List ℕ)) → InLi
 unfolding unlisted numberOf
 in-unlisted choice h fields = either InLine (goodEnd (h .count) fields) _ _ (in-over choice) (omega arith)
 
-in-role : (t : ℤ) (p : ℕ) (r : Option Role) → InLine (withRole t p r)
+in-role : (h : Head) (p : ℕ) (d : Data) (r : Option Role) → InLine (withRole h p d r)
 unfolding withRole numberOf
-in-role t p none = omega arith
-in-role t p (some r) = tt
+in-role h p d none = omega arith
+in-role h p d (some r) = tt
 
-in-data : (t : ℤ) (p : ℕ) (part : Part) (d : Data) → InLine (withData t p part d)
+in-data : (h : Head) (p : ℕ) (part : Part) (d : Data) → InLine (withData h p part d)
 unfolding withData numberOf
-in-data t p part Malformed = omega arith
-in-data t p part (Three a b c) = in-role t p (roleOf part (Three a b c))
-in-data t p part Others = in-role t p (roleOf part Others)
+in-data h p part Malformed = omega arith
+in-data h p part (Three a b c) = in-role h p (Three a b c) (roleOf part (Three a b c))
+in-data h p part Others = in-role h p Others (roleOf part Others)
 
 in-place : (h : Head) (fields : Option (List ℕ)) (p : Option ℕ) → InLine (onPlace h fields p)
 unfolding onPlace numberOf
 in-place h fields none = omega arith
-in-place h fields (some p) = in-data (h .time) p (partOf (h .kind) (h .event)) (dataOf (h .count) fields)
+in-place h fields (some p) = in-data h p (partOf (h .kind) (h .event)) (dataOf (h .count) fields)
 
 in-sorted : (choice : Choice) (h : Head) (fields : Option (List ℕ)) (s : Standing) → InLine (sorted choice h fields s)
 unfolding sorted listedLine numberOf

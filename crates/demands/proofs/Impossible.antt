@@ -18,7 +18,8 @@ use Rattle.demands.specs.Table.{When}
 use Rattle.demands.specs.Parts.{number, line}
 use Rattle.demands.specs.Demand3.{Allowed}
 use Rattle.demands.proofs.Refusals.{accepted-exactly, refused-exactly}
-use Rattle.demands.proofs.Judged.{judge-times, judge-room}
+use Rattle.demands.proofs.Reached.{foundBy, reach-times, reach-found}
+use Rattle.demands.proofs.Judged.{judge-stopped, judge-room}
 use Rattle.demands.proofs.Allowed.{allowed-sound, sound-allowed}
 use Rattle.demands.proofs.Times.{one-choice}
 
@@ -42,12 +43,12 @@ module _ (i : Inputs) where
     where
       on-room : (rounds : ℕ) (times : List ℤ) → settle (waits i choice) ≡ settled rounds times
           → (b : Bool) → ltb (length (i .room)) (length (written i choice times)) ≡ b → (number i ≡ 0) ⊎ ((number i ≡ 15) ⊎ (number i ≡ 16))
-      on-room rounds times e true b = inr (inr (ap (λ (o : Outcome). o .answer .number) (judge-room i choice m rounds times e (ltb-true _ _ b))))
+      on-room rounds times e true b = inr (inr (ap (λ (o : Outcome). o .answer .number) (judge-room i (foundBy i choice rounds times) (reach-found i choice m rounds times e) (ltb-true _ _ b))))
       on-room rounds times e false b =
           inl (accepted-exactly i .1 (record { choice = choice; rounds = rounds; times = times; matched = m; settles = e; room = ltb-false _ _ b }))
 
       go : (s : Settled) → settle (waits i choice) ≡ s → (number i ≡ 0) ⊎ ((number i ≡ 15) ⊎ (number i ≡ 16))
-      go impossible e = inr (inl (ap (λ (o : Outcome). o .answer .number) (judge-times i choice m e)))
+      go impossible e = inr (inl (ap (λ (o : Outcome). o .answer .number) (judge-stopped i Fault.NoTimes 0 (reach-times i choice m e))))
       go (settled rounds times) e = on-room rounds times e _ refl
 
   pub impossible-exactly : (choice : Choice) → Matched i choice

@@ -15,11 +15,12 @@ use Rattle.paper.specs.declared.Choice.{Choice}
 use Rattle.paper.specs.declared.Entry.{Entry}
 use Rattle.paper.specs.declared.Record.{Record}
 use Rattle.paper.specs.declared.Stop.the-variants.{End}
-use Rattle.reading.proofs.Tidy.{tidy-record}
+use Rattle.matching.specs.Belongs.{processor}
+use Rattle.reading.specs.Tidy.{InRange}
+use Rattle.reading.proofs.Tidy.{tidy-record, time-of-line}
 use Rattle.reading.proofs.Along.{Reads, ends, passes, lists, along}
 use Rattle.rounds.proofs.Order.{≤ℤ-trans}
-use Rattle.demands.specs.Steps.{original, processor}
-use Rattle.demands.proofs.LineTime.{InRange, time-of-line}
+use Rattle.demands.specs.Steps.{original}
 
 -- entries whose times are in range and in order, from the last times of each processor on
 record Next (last : List ℤ) (r : Record) : Type 0 where

@@ -1,13 +1,14 @@
 -- `Demands` has the three theorems; the files before it what they need, from the tests up.
 pub mod Tests
 pub mod Numbers
+pub mod Reached
 pub mod Judged
 pub mod Faults
 pub mod Closed
+pub mod Rows
 pub mod Exactly
 pub mod Refusals
 pub mod Recorded
-pub mod LineTime
 pub mod InOrder
 pub mod Allowed
 pub mod Times

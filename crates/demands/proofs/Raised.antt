@@ -2,22 +2,24 @@
 use Prim.Native.Nat.{ℕ, _+_, _*_, _≤_, _<_}
 use native.Mathlib.Omega.{arith}
 use native.Mathlib.Decide.{decLt}
-use mathlib.Core.Path.{_≡_, refl}
-use mathlib.Core.List.{List}
+use mathlib.Core.Path.{_≡_, refl, sym, ap, _∙_}
 use lib.ListN.{length, getD, List·getD-eq-default}
 use lib.Signed.{_≤ℤ_}
 use Rattle.paper.specs.Clock.{settled, settle}
 use Rattle.paper.specs.Matching.{entryAt, latencyFor, waitsOf}
-use Rattle.paper.specs.Answer.{Inputs}
+use Rattle.paper.specs.Reading.{Reading, readOf}
+use Rattle.paper.specs.Answer.{Inputs, given, most}
 use Rattle.paper.specs.declared.Choice.{Choice}
-use Rattle.paper.specs.declared.Entry.{Entry}
 use Rattle.paper.specs.declared.Role.{Role}
 use Rattle.paper.specs.declared.Role.the-variants.{Neither, Send, Receive}
+use Rattle.paper.specs.declared.Stop.the-variants.{End}
+use Rattle.reading.proofs.Along.{one-reading}
 use Rattle.rounds.specs.Compare.{Slower}
 use Rattle.rounds.proofs.Latency.{slower-sound, slower-later}
-use Rattle.demands.specs.Steps.{entries, Matched, waits, Accepted}
+use Rattle.demands.specs.Steps.{reading, entries, Read, Matched, waits, Accepted}
 use Rattle.demands.specs.Parts.{number, listed, time}
 use Rattle.demands.specs.Demand3.{Raised}
+use Rattle.demands.proofs.Tests.{same-most}
 use Rattle.demands.proofs.Times.{closed, one-choice, listed-is, time-is}
 use Rattle.demands.proofs.Impossible.{impossible-matched, matched-impossible}
 
@@ -37,11 +39,11 @@ module _ (i j : Inputs) (raised : Raised i j) where
   latency-higher processor (Receive m) = higher (64 * m .peer + processor)
 
   -- the same records, with higher latencies
-  slower : (choice : Choice) → Slower (waits i choice) (waits j choice)
+  slower : (choice : Choice) → entries j choice ≡ entries i choice → Slower (waits i choice) (waits j choice)
   unfolding waitsOf
-  slower choice =
+  slower choice same =
       let es = entries i choice in
-      rw (raised .trace)
+      rw same
       (record {
         size = refl;
         original = λ k l. refl;
@@ -51,34 +53,57 @@ module _ (i j : Inputs) (raised : Raised i j) where
         latency = λ k l. latency-higher (entryAt es k .body .processor) (entryAt es k .body .role);
       })
 
-  -- the earlier checks pass under the new table too
-  matched-too : length (j .times) ≡ 2048 → (choice : Choice) → Matched i choice → Matched j choice
-  matched-too places choice m =
-      record {
-        read = record {
-          begun = record {
-            chosen = rw (raised .choice) (m .read .begun .chosen);
-            lengths = (raised .to .size, places);
-            low = raised .to .low;
-            short = rw (raised .trace) (m .read .begun .short);
-          };
-          whole = rw (raised .trace) (m .read .whole);
-        };
-        matches = rw (raised .trace) (m .matches);
-      }
+  -- ---- "never turns "impossible" into an answer"
 
-  pub stays-impossible : number i ≡ 15 → length (j .times) ≡ 2048 → number j ≡ 15
+  module _ (places : length (j .times) ≡ length (i .times)) (choice : Choice) where
+    same-limit : most (given j) ≡ most (given i)
+    same-limit = same-most (given j) (given i) places
+
+    same-reading : reading j choice ≡ reading i choice
+    same-reading = ap (λ (n : ℕ). readOf choice n (j .trace)) same-limit ∙ ap (readOf choice (most (given i))) (raised .trace)
+
+    same-entries : entries j choice ≡ entries i choice
+    same-entries = ap (λ (r : Reading). r .entries) same-reading
+
+    -- the earlier checks pass under the new table too
+    matched-too : Matched i choice → Matched j choice
+    matched-too m =
+        record {
+          read = record {
+            begun = record {
+              chosen = rw (raised .asked) (m .read .begun .chosen);
+              lengths = (raised .to .size, places ∙ m .read .begun .lengths .1 ∙ sym same-limit);
+              low = raised .to .low;
+              short = rw (raised .trace) (m .read .begun .short);
+            };
+            whole = rw same-reading (m .read .whole);
+          };
+          matches = rw same-entries (m .matches);
+        }
+
+  pub stays-impossible : number i ≡ 15 → length (j .times) ≡ length (i .times) → number j ≡ 15
   stays-impossible e places =
       let (choice, m, none-sound) = impossible-matched i e in
       matched-impossible j choice (matched-too places choice m)
-      (λ x s. none-sound x (slower-sound (waits i choice) (waits j choice) (slower choice) s))
+      (λ x s. none-sound x (slower-sound (waits i choice) (waits j choice) (slower choice (same-entries places choice)) s))
+
+  -- ---- "never makes a time earlier"
+
+  -- both are read to their end, so it does not matter how many places each was lent
+  same-whole : (choice : Choice) → Read i choice → reading j choice .stop ≡ End → entries j choice ≡ entries i choice
+  same-whole choice r e =
+      let read : readOf choice (most (given i)) (j .trace) .stop ≡ End = rw (raised .trace) (r .whole) in
+      ap (λ (r : Reading). r .entries)
+      (one-reading choice (most (given j)) (most (given i)) (j .trace) e read ∙ ap (readOf choice (most (given i))) (raised .trace))
 
   pub none-earlier : (a : Accepted i) (b : Accepted j) → (k : ℕ) → k < listed i → time i k ≤ℤ time j k
   unfolding waitsOf
   none-earlier a b k l =
-      let same : b .choice ≡ a .choice = one-choice i (b .choice) (a .choice) (rw (raised .choice) at (b .matched .read .begun .chosen)) (a .matched .read .begun .chosen) in
+      let same : b .choice ≡ a .choice = one-choice i (b .choice) (a .choice) (rw (raised .asked) at (b .matched .read .begun .chosen)) (a .matched .read .begun .chosen) in
+      let same-records : entries j (a .choice) ≡ entries i (a .choice) =
+      same-whole (a .choice) (a .matched .read) (rw same at (b .matched .read .whole)) in
       let inside : k < length (entries i (a .choice)) = rw (← listed-is i a) l in
       let settles-new : settle (waits j (a .choice)) ≡ settled (b .rounds) (b .times) = rw (← same) (b .settles) in
-      rw (time-is i a k inside, time-is j b k (rw (same, raised .trace) inside))
-      (slower-later (waits i (a .choice)) (waits j (a .choice)) (slower (a .choice)) (closed i (a .choice))
+      rw (time-is i a k inside, time-is j b k (rw (same, same-records) inside))
+      (slower-later (waits i (a .choice)) (waits j (a .choice)) (slower (a .choice) same-records) (closed i (a .choice))
       (closed j (a .choice)) (a .settles) settles-new k inside)

@@ -10,10 +10,11 @@ use lib.Signed.{≤ℤ-refl}
 use Rattle.paper.specs.Clock.{timeAt, settle, settled}
 use Rattle.paper.specs.Matching.{sendOf, waitsOf}
 use Rattle.paper.specs.declared.Entry.{Entry}
+use Rattle.matching.specs.Belongs.{processor}
 use Rattle.matching.proofs.Belong.{belongs}
 use Rattle.matching.proofs.Times.{Alike, same-size, same-entry, same-send}
 use Rattle.rounds.proofs.Lists.{listed-same, listed-times}
-use Rattle.demands.specs.Steps.{original, processor}
+use Rattle.demands.specs.Steps.{original}
 use Rattle.demands.specs.Demand3.{Allowed}
 use Rattle.demands.proofs.Allowed.{still}
 use Rattle.demands.proofs.Reread.{withTimes, times-alike, times-there}

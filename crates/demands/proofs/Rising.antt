@@ -13,8 +13,8 @@ use Rattle.paper.specs.Clock.{limit, timeAt}
 use Rattle.paper.specs.Reading.{start}
 use Rattle.paper.specs.Matching.{entryAt}
 use Rattle.paper.specs.declared.Entry.{Entry}
-use Rattle.demands.specs.Steps.{processor}
-use Rattle.demands.proofs.LineTime.{InRange}
+use Rattle.matching.specs.Belongs.{processor}
+use Rattle.reading.specs.Tidy.{InRange}
 use Rattle.demands.proofs.InOrder.{start-size}
 
 abbrev pub Rises : List ℤ → List Entry → List ℤ → Type 0

@@ -1,4 +1,4 @@
--- The tests of 1 to 4 and of 16, and the plain facts that they tell.
+-- The tests of 1 to 4, and the plain facts that they tell.
 use Prim.Native.Nat.{ℕ, zero, suc, _≤_, _<_}
 use native.Mathlib.Omega.{arith}
 use mathlib.Core.Path.{_≡_, refl}
@@ -8,7 +8,8 @@ use mathlib.Core.List.{List, [], _∷_}
 use lib.ListN.{length, getD}
 use lib.Dec.{leb}
 use borrow.Author.Tests.{eqb-true, eq-eqb, ne-eqb, leb-true, le-leb}
-use Rattle.paper.specs.Answer.{Inputs, choiceOf, rightLengths, lowLatencies}
+use Rattle.paper.specs.Answer.{Given, Inputs, given, most, longest, choiceOf, heard, rightLengths, lowLatencies}
+use Rattle.paper.specs.declared.Asked.{Asked}
 use Rattle.forms.proofs.Tests.{both, never}
 use Rattle.demands.specs.Steps.{RightLengths, LowLatencies, ShortTrace}
 
@@ -24,7 +25,7 @@ not-told {b = false} t h = refl
 pub untold : {b : Bool} {P : Type 0} → Tells b P → b ≡ false → ¬ P
 untold t e p = let yes-it = t .told p in never (cc)
 
-pub lengths-tell : (i : Inputs) → Tells (rightLengths i) (RightLengths i)
+pub lengths-tell : (i : Inputs) → Tells (rightLengths (given i)) (RightLengths i)
 unfolding rightLengths
 lengths-tell i =
     record {
@@ -46,17 +47,22 @@ lows-told (x ∷ xs) h = rw (le-leb x 1000000 (h 0 (omega arith))) (lows-told xs
 pub lows-tell : (i : Inputs) → Tells (lowLatencies (i .latencies)) (LowLatencies i)
 lows-tell i = record { holds = lows-hold (i .latencies); told = lows-told (i .latencies) }
 
-pub short-tells : (i : Inputs) → Tells (leb (length (i .trace)) 65536) (ShortTrace i)
+pub short-tells : (i : Inputs) → Tells (leb (length (i .trace)) longest) (ShortTrace i)
 short-tells i = record { holds = leb-true _ _; told = le-leb _ _ }
 
 -- "choice is neither 1 (strict) nor 2 (lenient)"
-pub unchosen : (n : ℕ) → ¬ (n ≡ 1) → ¬ (n ≡ 2) → choiceOf n ≡ none
-unfolding choiceOf
-unchosen n a b = rw (ne-eqb n 1 a, ne-eqb n 2 b)
+pub unchosen : (a : Asked) → ¬ (a .choice ≡ 1) → ¬ (a .choice ≡ 2) → heard a ≡ none
+unfolding heard choiceOf
+unchosen a one two = rw (ne-eqb (a .choice) 1 one, ne-eqb (a .choice) 2 two)
 
-pub neither : (n : ℕ) → choiceOf n ≡ none → (¬ (n ≡ 1)) × (¬ (n ≡ 2))
-unfolding choiceOf
-neither n e = (
+pub neither : (a : Asked) → heard a ≡ none → (¬ (a .choice ≡ 1)) × (¬ (a .choice ≡ 2))
+unfolding heard choiceOf
+neither a e = (
   λ p. let h = rw p at e in never (cc),
   λ p. let h = rw p at e in never (cc),
 )
+
+-- how many records may be listed does not look at the trace or at the table
+pub same-most : (g h : Given) → g .places ≡ h .places → most g ≡ most h
+unfolding most
+same-most g h e = refl

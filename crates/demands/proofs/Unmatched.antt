@@ -11,14 +11,14 @@ use lib.Signed.{_≤ℤ_, leZ-yes, ≤ℤ-refl}
 use lib.Dec.{le→leb}
 use Rattle.paper.specs.Clock.{limit, settled, settle, listed}
 use Rattle.paper.specs.Matching.{sendOf, isReceive, matchedCount}
-use Rattle.paper.specs.Answer.{Inputs}
+use Rattle.paper.specs.Answer.{Inputs, given, most}
 use Rattle.paper.specs.declared.Choice.{Choice}
 use Rattle.paper.specs.declared.Entry.{Entry}
 use Rattle.matching.proofs.Belong.{roleAt, belongs}
 use Rattle.matching.proofs.Count.{count, count-all, count-less}
+use Rattle.reading.specs.Tidy.{InRange}
 use Rattle.demands.specs.Steps.{entries, waits, Matched, original}
 use Rattle.demands.specs.Demand3.{Allowed}
-use Rattle.demands.proofs.LineTime.{InRange}
 use Rattle.demands.proofs.InOrder.{originals-range, originals-order}
 use Rattle.demands.proofs.Allowed.{still}
 
@@ -36,9 +36,9 @@ module _ (i : Inputs) (choice : Choice) (m : Matched i choice) (none-matched : m
   originals-allowed : Allowed (i .latencies) (entries i choice) (original (entries i choice))
   originals-allowed =
       record {
-        format = λ k l. range-limit (original (entries i choice) k) (originals-range choice 2048 (i .trace) (m .read .whole) k l);
+        format = λ k l. range-limit (original (entries i choice) k) (originals-range choice (most (given i)) (i .trace) (m .read .whole) k l);
         above = λ k l. ≤ℤ-refl (original (entries i choice) k);
-        order = originals-order choice 2048 (i .trace) (m .read .whole);
+        order = originals-order choice (most (given i)) (i .trace) (m .read .whole);
         clock = λ j k l e. absurd (no-receive (entries i choice) none-matched j k l e);
       }
 

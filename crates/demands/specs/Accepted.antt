@@ -38,7 +38,7 @@ pub record AcceptedAnswer (i : Inputs) (choice : Choice) : Type 0 where
   pub moves : (verdict i ≡ 2) ↔ Moved i choice
   pub consistent : (verdict i ≡ 1) ↔ ((¬ (matched i ≡ 0)) × (¬ Moved i choice))
   -- "later places are untouched"
-  pub places : length (judge i .times) ≡ 2048
+  pub places : length (judge i .times) ≡ length (i .times)
   pub later : (k : ℕ) → listed i ≤ k → time i k ≡ timeAt (i .times) k
   -- "The output room holds the written trace at its start and is untouched after it."
   pub writes : writtenTrace i ≡ bytes i choice (corrected i)

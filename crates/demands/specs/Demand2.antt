@@ -7,49 +7,33 @@ use mathlib.Core.Logic.{_↔_}
 use mathlib.Core.Bool.{true}
 use mathlib.Core.Option.{some}
 use mathlib.Core.List.{List, [], _∷_, _++_}
-use lib.ListN.{length, take}
+use lib.ListN.{length}
 use lib.IntN.{ℤ}
 use Rattle.paper.specs.Forms.{timeShown}
 use Rattle.paper.specs.Line.{lineOf}
 use Rattle.paper.specs.Reading.{Lines, done, ended, linesOf}
-use Rattle.paper.specs.Matching.{Key, countIf, isSendOf, isReceiveOf, sendOf}
-use Rattle.paper.specs.Answer.{Inputs}
+use Rattle.paper.specs.Matching.{sendOf}
+use Rattle.paper.specs.Answer.{Inputs, longest}
 use Rattle.paper.specs.declared.Choice.{Choice}
 use Rattle.paper.specs.declared.Entry.{Entry}
 use Rattle.paper.specs.declared.Line.the-variants.{Passed, Listed}
 use Rattle.paper.specs.declared.Message.{Message}
 use Rattle.paper.specs.declared.Record.{Record}
-use Rattle.paper.specs.declared.Role.the-variants.{Send, Receive}
+use Rattle.paper.specs.declared.Role.the-variants.{Receive}
 use Rattle.forms.specs.Free.{Free}
+use Rattle.matching.specs.Belongs.{role, Belongs}
 use Rattle.demands.specs.Parts.{number, verdict, listed, passed, matched, unreceived, rounds, written, corrected, writtenTrace}
-use Rattle.demands.specs.Steps.{Chosen, entries, processor, role, Matched}
+use Rattle.demands.specs.Steps.{Chosen, entries, Matched}
 use Rattle.demands.specs.Accepted.{Moved, AcceptedAnswer}
 
 -- ---- each receive and its send
 
--- "from p to q with type t", of a message that record j sent and record k received
-abbrev pub keyOf : List Entry → ℕ → ℕ → Message → Key
-keyOf es j k m = record { sender = processor es j; receiver = processor es k; tag = m .tag }
-
--- record k received what record j sent: "The k-th receive at processor q from p with type t belongs to the k-th send from p to q with
--- type t, both counted in file order"
-pub record Belongs (es : List Entry) (k j : ℕ) : Type 0 where
-  pub within : j < length es
-  pub received : Message
-  pub sent : Message
-  pub receives : role es k ≡ Receive received
-  pub sends : role es j ≡ Send sent
-  pub from : received .peer ≡ processor es j
-  pub to : sent .peer ≡ processor es k
-  pub tag : received .tag ≡ sent .tag
-  pub length : received .length ≡ sent .length
-  pub counted : countIf (isReceiveOf (keyOf es j k sent)) (take k es) ≡ countIf (isSendOf (keyOf es j k sent)) (take j es)
-
--- "each receive is matched to one send"
+-- "each receive is matched to one send", which it belongs to and whose length it has
 pub record Sent (es : List Entry) (k : ℕ) : Type 0 where
   pub send : ℕ
   pub is : sendOf es k ≡ some send
   pub belongs : Belongs es k send
+  pub length : belongs .received .length ≡ belongs .sent .length
 
 -- ---- the written trace
 
@@ -77,8 +61,8 @@ pub data SameButStamps (choice : Choice) : Lines → List ℤ → Lines → Type
 pub record Again (i j : Inputs) : Type 0 where
   pub trace : j .trace ≡ writtenTrace i
   pub latencies : j .latencies ≡ i .latencies
-  pub choice : j .choice ≡ i .choice
-  pub places : length (j .times) ≡ 2048
+  pub asked : j .asked ≡ i .asked
+  pub places : length (j .times) ≡ length (i .times)
   pub room : j .wanted ≡ true → written i ≤ length (j .room)
 
 -- "gives those times and moves none": the same counts, but 0 rounds; the same bytes, where they are asked for
@@ -108,4 +92,4 @@ pub record Demand2 : Type 0 where
   pub stamps : (i : Inputs) (choice : Choice) → Chosen i choice → number i ≡ 0 → i .wanted ≡ true
       → SameButStamps choice (linesOf (i .trace)) (corrected i) (linesOf (writtenTrace i))
   -- "reading it again .., if it is within the size limit, gives those times and moves none"
-  pub again : (i : Inputs) → number i ≡ 0 → i .wanted ≡ true → written i ≤ 65536 → (j : Inputs) → Again i j → Steady i j
+  pub again : (i : Inputs) → number i ≡ 0 → i .wanted ≡ true → written i ≤ longest → (j : Inputs) → Again i j → Steady i j

@@ -16,8 +16,9 @@ use Rattle.paper.specs.Matching.{sendOf}
 use Rattle.paper.specs.Answer.{Inputs}
 use Rattle.paper.specs.declared.Choice.{Choice}
 use Rattle.paper.specs.declared.Entry.{Entry}
+use Rattle.matching.specs.Belongs.{processor}
 use Rattle.demands.specs.Parts.{number, listed, time}
-use Rattle.demands.specs.Steps.{Chosen, entries, original, processor, Matched}
+use Rattle.demands.specs.Steps.{Chosen, entries, original, Matched}
 
 -- ---- such times
 
@@ -43,7 +44,7 @@ pub record Longer (i j : Inputs) : Type 0 where
   pub more : List ℕ
   pub trace : j .trace ≡ i .trace ++ more
   pub latencies : j .latencies ≡ i .latencies
-  pub choice : j .choice ≡ i .choice
+  pub asked : j .asked ≡ i .asked
 
 -- "a valid table"
 pub record Valid (table : List ℕ) : Type 0 where
@@ -53,7 +54,7 @@ pub record Valid (table : List ℕ) : Type 0 where
 -- "Raising latencies from one valid table to another"
 pub record Raised (i j : Inputs) : Type 0 where
   pub trace : j .trace ≡ i .trace
-  pub choice : j .choice ≡ i .choice
+  pub asked : j .asked ≡ i .asked
   pub from : Valid (i .latencies)
   pub to : Valid (j .latencies)
   pub higher : (k : ℕ) → k < 4096 → getD (i .latencies) k 0 ≤ getD (j .latencies) k 0
@@ -71,4 +72,4 @@ pub record Demand3 : Type 0 where
   -- "Raising latencies .. never makes a time earlier"
   pub raised-later : (i j : Inputs) → Raised i j → number i ≡ 0 → number j ≡ 0 → (k : ℕ) → k < listed i → time i k ≤ℤ time j k
   -- "and never turns "impossible" into an answer"
-  pub raised-impossible : (i j : Inputs) → Raised i j → number i ≡ 15 → length (j .times) ≡ 2048 → number j ≡ 15
+  pub raised-impossible : (i j : Inputs) → Raised i j → number i ≡ 15 → length (j .times) ≡ length (i .times) → number j ≡ 15

@@ -8,25 +8,24 @@ use lib.IntN.{ℤ}
 use Rattle.paper.specs.Reading.{Reading, readOf}
 use Rattle.paper.specs.Matching.{entryAt, matchedOf, waitsOf}
 use Rattle.paper.specs.Clock.{Waits, settle, settled}
-use Rattle.paper.specs.Answer.{Inputs, choiceOf, written}
+use Rattle.paper.specs.Answer.{Inputs, given, most, longest, heard, written}
 use Rattle.paper.specs.declared.Choice.{Choice}
 use Rattle.paper.specs.declared.Entry.{Entry}
-use Rattle.paper.specs.declared.Role.{Role}
 use Rattle.paper.specs.declared.Stop.the-variants.{End}
 
 -- ---- "1 to 4", each where it passes
 
 abbrev pub Chosen : Inputs → Choice → Type 0
-Chosen i choice = choiceOf (i .choice) ≡ some choice
+Chosen i choice = heard (i .asked) ≡ some choice
 
 abbrev pub RightLengths : Inputs → Type 0
-RightLengths i = (length (i .latencies) ≡ 4096) × (length (i .times) ≡ 2048)
+RightLengths i = (length (i .latencies) ≡ 4096) × (length (i .times) ≡ most (given i))
 
 abbrev pub LowLatencies : Inputs → Type 0
 LowLatencies i = (k : ℕ) → k < length (i .latencies) → getD (i .latencies) k 0 ≤ 1000000
 
 abbrev pub ShortTrace : Inputs → Type 0
-ShortTrace i = length (i .trace) ≤ 65536
+ShortTrace i = length (i .trace) ≤ longest
 
 pub record Begun (i : Inputs) (choice : Choice) : Type 0 where
   pub chosen : Chosen i choice
@@ -37,7 +36,7 @@ pub record Begun (i : Inputs) (choice : Choice) : Type 0 where
 -- ---- "then line by line"
 
 abbrev pub reading : Inputs → Choice → Reading
-reading i choice = readOf choice 2048 (i .trace)
+reading i choice = readOf choice (most (given i)) (i .trace)
 
 -- the listed records in file order
 abbrev pub entries : Inputs → Choice → List Entry
@@ -46,12 +45,6 @@ entries i choice = reading i choice .entries
 -- of the record at place k, k counted from 0
 abbrev pub original : List Entry → ℕ → ℤ
 original es k = entryAt es k .body .time
-
-abbrev pub processor : List Entry → ℕ → ℕ
-processor es k = entryAt es k .body .processor
-
-abbrev pub role : List Entry → ℕ → Role
-role es k = entryAt es k .body .role
 
 -- no line is refused
 pub record Read (i : Inputs) (choice : Choice) : Type 0 where

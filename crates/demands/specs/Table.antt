@@ -28,7 +28,7 @@ pub record BadReceive (i : Inputs) (fault : Fault) (line : ℕ) : Type 0 where
 
 unfoldable pub When : Inputs → Fault → ℕ → Type 0
 -- "choice is neither 1 (strict) nor 2 (lenient)"
-When i Fault.BadChoice line = (¬ (i .choice ≡ 1)) × (¬ (i .choice ≡ 2)) × (line ≡ 0)
+When i Fault.BadChoice line = (¬ (i .asked .choice ≡ 1)) × (¬ (i .asked .choice ≡ 2)) × (line ≡ 0)
 -- "table or times of the wrong length"
 When i Fault.WrongLength line = (choice : Choice) × Chosen i choice × (¬ RightLengths i) × (line ≡ 0)
 -- "a latency above 1,000,000"

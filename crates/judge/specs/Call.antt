@@ -1,81 +1,64 @@
 -- The call, and what the functions below it have in hand.
-use Prim.Native.Nat.{ℕ, _/_, _≤_}
+use Prim.Native.Nat.{ℕ, _≤_}
 use mathlib.Core.Path.{_≡_}
 use mathlib.Core.List.{List, _++_}
-use mathlib.Core.Bool.{Bool, cond}
+use mathlib.Core.Bool.{Bool, true, false, cond}
 use lib.ListN.{length, drop}
 use lib.IntN.{ℤ}
 use lib.Dec.{eqb}
-use Rattle.paper.specs.Answer.{Inputs, Outcome, written, onWritten, onMatched, onRead}
-use Rattle.paper.specs.Reading.{readOf}
-use Rattle.paper.specs.Matching.{matchedOf, waitsOf, matchedCount, unreceivedCount}
-use Rattle.paper.specs.Clock.{settle, settled}
-use Rattle.paper.specs.declared.Choice.{Choice}
-use Rattle.paper.specs.declared.Choice.the-variants.{Strict, Lenient}
+use Rattle.paper.specs.Answer.{Inputs, Outcome, given, reach, judge}
+use Rattle.paper.specs.declared.Asked.{Asked}
 use Rattle.paper.specs.declared.Fault.the-variants as Fault
 use Rattle.paper.specs.declared.Answer.{Answer}
-use Rattle.paper.specs.declared.Stop.the-variants.{End}
-use Rattle.store.specs.Layout.{entriesIn}
+use Rattle.reach.specs.declared.Reached.{Reached}
+use Rattle.reach.specs.declared.Reached.the-variants.{Times, Refused, Misfit}
+use Rattle.reach.specs.Reach.{reaches}
+use Rattle.writing.specs.Outcome.{WrittenInto}
 use Rattle.writing.specs.declared.Written.{Written}
-use Rattle.writing.specs.declared.Written.the-variants.{Length, NoRoom, NoForm}
+use Rattle.writing.specs.declared.Written.the-variants.{Length, NoRoom, Unfit}
 use Rattle.answer.specs.declared.Counts.{Counts}
 use Rattle.answer.specs.Answers.{refusal, acceptance}
+
+-- what a call is given, and what it leaves
+abbrev pub inputs : (trace latencies : List ℕ) → Asked → List ℤ → Bool → List ℕ → Inputs
+inputs trace latencies asked times wanted room =
+    record { trace = trace; latencies = latencies; asked = asked; times = times; wanted = wanted; room = room }
+
+abbrev pub outcome : Answer → List ℤ → List ℕ → Outcome
+outcome answer times room = record { answer = answer; times = times; room = room }
+
+-- ---- the ending
 
 -- "then 16", or acceptance with the written trace's length
 unfoldable pub answerFor : Counts → Written → Answer
 answerFor c (Length bytes) = acceptance c bytes
 answerFor c NoRoom = refusal Fault.NoRoom 0
-answerFor c NoForm = refusal Fault.NoRoom 0
+answerFor c Unfit = refusal Fault.NoRoom 0
 
 -- the lent times behind an answer: the new ones at their start after acceptance, after a refusal as they were
 unfoldable pub timesAfter : ℕ → (new times : List ℤ) → List ℤ
 timesAfter number new times = cond (eqb number 0) (new ++ drop (length new) times) times
 
--- ---- the call
+-- the room where the written trace is wanted, and where it is not
+unfoldable pub wroteBy : Bool → (trace store : List ℕ) → List ℤ → List ℕ → Written → List ℕ → Type 0
+wroteBy true trace store new room done room′ = WrittenInto trace store new room done room′
+wroteBy false trace store new room done room′ = (done ≡ Length 0) × (room′ ≡ room)
 
--- what a call is given, and what it leaves
-abbrev pub asked : (trace latencies : List ℕ) → ℕ → List ℤ → Bool → List ℕ → Inputs
-asked trace latencies choice times wanted room =
-    record { trace = trace; latencies = latencies; choice = choice; times = times; wanted = wanted; room = room }
+pub record FinishedBy (counts : Counts) (trace store : List ℕ) (new times : List ℤ) (wanted : Bool) (room : List ℕ) (r : Answer) (times′ : List ℤ) (room′ : List ℕ) : Type 0 where
+  pub done : Written
+  pub wrote : wroteBy wanted trace store new room done room′
+  pub answer : r ≡ answerFor counts done
+  pub keeps : times′ ≡ timesAfter (answerFor counts done .number) new times
 
-abbrev pub outcome : Answer → List ℤ → List ℕ → Outcome
-outcome answer times room = record { answer = answer; times = times; room = room }
+-- a place for each listed record among the new times, and among the lent ones
+unfoldable pub WithPlaces : Reached → (new times : List ℤ) → Type 0
+WithPlaces (Times counts) new times = (counts .listed ≤ length new) × (counts .listed ≤ length times)
+WithPlaces (Refused fault line) new times = Unit
+WithPlaces Misfit new times = Unit
 
--- the number that a caller names a choice by
-unfoldable pub chosen : Choice → ℕ
-chosen Strict = 1
-chosen Lenient = 2
-
-abbrev pub given : Choice → (trace latencies : List ℕ) → List ℤ → Bool → List ℕ → Inputs
-given choice trace latencies times wanted room = asked trace latencies (chosen choice) times wanted room
-
--- what the lines come to, and the times that were found
-abbrev pub onLines : Inputs → Choice → Outcome
-onLines i choice = let reading = readOf choice 2048 (i .trace) in onRead i choice reading (reading .stop)
-
-abbrev pub onRecords : Inputs → Choice → Outcome
-onRecords i choice = let reading = readOf choice 2048 (i .trace) in onMatched i choice reading (matchedOf (reading .entries))
-
-abbrev pub onTimes : Inputs → Choice → ℕ → List ℤ → Outcome
-onTimes i choice rounds times =
-    let reading = readOf choice 2048 (i .trace) in
-    onWritten i reading (waitsOf (i .latencies) (reading .entries)) rounds times (written i choice times)
-
--- ---- on the way
-
--- a trace that was read to its end, its records in the store
-pub record Held (choice : Choice) (trace : List ℕ) (store : List ℤ) (listed passed : ℕ) : Type 0 where
-  pub stop : readOf choice 2048 trace .stop ≡ End
-  pub entries : entriesIn store listed ≡ readOf choice 2048 trace .entries
-  pub many : length (readOf choice 2048 trace .entries) ≡ listed
-  pub over : readOf choice 2048 trace .state .passed ≡ passed
-  pub few : listed ≤ 2048
-  pub room : listed ≤ length store / 7
-
--- the times found, with what was counted
-pub record Found (choice : Choice) (trace latencies : List ℕ) (store new : List ℤ) (counts : Counts) : Type 0 where
-  pub held : Held choice trace store (counts .listed) (counts .passed)
-  pub times : settle (waitsOf latencies (readOf choice 2048 trace .entries)) ≡ settled (counts .rounds) new
-  pub all : length new ≡ counts .listed
-  pub matched : matchedCount (readOf choice 2048 trace .entries) ≡ counts .matched
-  pub unreceived : unreceivedCount (readOf choice 2048 trace .entries) ≡ counts .unreceived
+-- whatever the table and what the caller named: where the call came so far with them, it comes to this
+unfoldable pub ConcludedBy : Reached → (trace store : List ℕ) → (new times : List ℤ) → Bool → List ℕ → Answer → List ℤ → List ℕ → Type 0
+ConcludedBy reached trace store new times wanted room r times′ room′ =
+    (latencies : List ℕ) (asked : Asked) (sends : List ℕ)
+    → reaches trace (reach (given (inputs trace latencies asked times wanted room))) reached store sends new
+    → outcome r times′ room′ ≡ judge (inputs trace latencies asked times wanted room)

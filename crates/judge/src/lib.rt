@@ -1,33 +1,57 @@
-// The one public call: a trace, a latency table and a choice in, the answer out, with the corrected times and, if asked for, the
-// corrected trace in what the caller lent. Refusals come in the paper's order: 1 to 4, the lines, 13 and 14, 15, 16. Nothing lent is
-// touched before all of them are decided.
-mod checks;
-mod finish;
-mod read;
-mod settle;
+// The one public call: a trace, a latency table and what the caller names in, the answer out, with the corrected times and, if asked
+// for, the corrected trace in what the caller lent. Refusals come in the paper's order: how far the call comes is said by crate
+// reach, 16 and acceptance stand in conclude.rt. Nothing lent is touched before all of them are decided.
+mod conclude;
 
 ghost use mathlib.Core.Path.{_≡_};
+ghost use lib.ListN.{length};
 ghost use Rattle.paper.specs.Answer.{judge};
-ghost use Rattle.judge.specs.Call.{asked, outcome};
+ghost use Rattle.judge.specs.Call.{inputs, outcome};
 use paper::Answer;
-use paper::Choice;
-use paper::Fault;
+use paper::Asked;
+
+// ---- All local arrays that grow with the number of records stand in `judge`, each made by a function of its own, so that no other
+// proof meets so many zeros.
+
+fn places() -> [u32; 2048]
+    ensures { λ r. ⌜ length r ≡ 2048 ⌝ }
+{
+    [0; 2048]
+}
+
+fn blanks() -> [i64; 2048]
+    ensures { λ r. ⌜ length r ≡ 2048 ⌝ }
+{
+    [0; 2048]
+}
 
 pub fn judge(
     trace: &[u8],
     latencies: &[u32],
-    choice: u32,
+    asked: Asked,
     times: &mut [i64],
     wanted: bool,
     room: &mut [u8],
 ) -> Answer
-    ensures { λ r. ⌜ outcome r (now (times .exit)) (now (room .exit)) ≡ judge (asked (now (trace .entry)) (now (latencies .entry)) choice (now (times .entry)) wanted (now (room .entry))) ⌝ }
+    ensures { λ r. ⌜ outcome r (now (times .exit)) (now (room .exit)) ≡ judge (inputs (now (trace .entry)) (now (latencies .entry)) asked (now (times .entry)) wanted (now (room .entry))) ⌝ }
 {
-    if choice == 1 {
-        return checks::check(Choice::Strict, trace, latencies, times, wanted, room);
-    }
-    if choice == 2 {
-        return checks::check(Choice::Lenient, trace, latencies, times, wanted, room);
-    }
-    answer::refused(Fault::BadChoice, 0)
+    let mut store = store::empty();
+    let mut sends = places();
+    let mut before = places();
+    let mut latency = places();
+    let mut new = blanks();
+    let mut spare = blanks();
+    let reached = reach::reach(
+        trace,
+        latencies,
+        asked,
+        times.len(),
+        &mut store,
+        &mut sends,
+        &mut before,
+        &mut latency,
+        &mut new,
+        &mut spare,
+    );
+    conclude::conclude(reached, trace, &store, &new, times, wanted, room)
 }

@@ -2,16 +2,15 @@
 use Prim.Native.Nat.{ℕ}
 use mathlib.Core.Path.{_≡_, refl, sym, ap, _∙_}
 use mathlib.Core.List.{List}
-use mathlib.Core.Bool.{Bool, true, false, cond, _&&_, _||_}
+use mathlib.Core.Bool.{Bool, true, false, cond, _&&_}
 use mathlib.Core.Option.{Option, none, some}
-use native.Mathlib.Omega.{arith}
 use lib.IntN.{ℤ, pos, negsuc, natAbs}
 use lib.Signed.{leZ}
 use lib.Dec.{leb·zero}
 use Rattle.paper.specs.Tests.{eqZ, upTo}
 use Rattle.paper.specs.Line.{partOf, messageOf, placed, onPlace, listedLine, roleOf, withRole, withData, dataOf}
 use Rattle.paper.specs.declared.Data.{Data}
-use Rattle.paper.specs.declared.Data.the-variants.{Malformed, Three, Others}
+use Rattle.paper.specs.declared.Data.the-variants.{Three, Others}
 use Rattle.paper.specs.declared.Role.{Role}
 use Rattle.paper.specs.declared.Role.the-variants as Role
 use Rattle.paper.specs.declared.Part.{Part}
@@ -130,30 +129,31 @@ module _ (h : Head) (fields : Option (List ℕ)) (r : Natural) (is : numberIn r 
   unfolding listedLine onPlace numberIn
   no-place e = rw (← is, e)
 
-  pub good-place : (n : ℕ) → r ≡ Of n → {t k e : ℤ} {d : Data} (part : Part) → t ≡ h .time → k ≡ h .kind → e ≡ h .event → part ≡ partOf k e → d ≡ dataOf (h .count) fields
-      → withData t n part d ≡ listedLine h fields
+  pub good-place : (n : ℕ) → r ≡ Of n → {k e : ℤ} {d : Data} (part : Part) → k ≡ h .kind → e ≡ h .event → part ≡ partOf k e → d ≡ dataOf (h .count) fields
+      → withData h n part d ≡ listedLine h fields
   unfolding listedLine onPlace numberIn
-  good-place n o part a b c q s = rw (← is, o, a, q, b, c, s)
+  good-place n o part b c q s = rw (← is, o, q, b, c, s)
 
 -- ---- the record put together
 
-pub listed-with : {t u : ℤ} (p : ℕ) (o : Option Role) (role : Role) → u ≡ t → o ≡ some role
-    → Listed (record { time = u; processor = p; role = role }) ≡ withRole t p o
-unfolding withRole
-listed-with p o role e q = rw (e, q)
+module _ (h : Head) (p : ℕ) (values : Data) (o : Option Role) where
+  pub listed-with : {t k e : ℤ} (role : Role) → t ≡ h .time → k ≡ h .kind → e ≡ h .event → o ≡ some role
+      → Listed (record { time = t; processor = p; kind = k; event = e; values = values; role = role }) ≡ withRole h p values o
+  unfolding withRole
+  listed-with role a b c q = rw (a, b, c, q)
 
-pub not-with : (t : ℤ) (p : ℕ) (o : Option Role) → o ≡ none → Refused Fault.NoMessage ≡ withRole t p o
-unfolding withRole
-not-with t p o q = rw q
+  pub not-with : o ≡ none → Refused Fault.NoMessage ≡ withRole h p values o
+  unfolding withRole
+  not-with q = rw q
 
-module _ {t u : ℤ} (p : ℕ) (part : Part) (d : Data) (same-time : u ≡ t) (o : Option Role) (is : o ≡ roleOf part d) where
-  pub with-three : {a b c : ℤ} → d ≡ Three a b c → withRole u p o ≡ withData t p part d
+module _ (h : Head) (p : ℕ) (part : Part) (d : Data) (o : Option Role) (is : o ≡ roleOf part d) where
+  pub with-three : {a b c : ℤ} → d ≡ Three a b c → withRole h p d o ≡ withData h p part d
   unfolding withData
-  with-three e = rw (same-time, is, e)
+  with-three e = rw (is, e)
 
-  pub with-others : d ≡ Others → withRole u p o ≡ withData t p part d
+  pub with-others : d ≡ Others → withRole h p d o ≡ withData h p part d
   unfolding withData
-  with-others e = rw (same-time, is, e)
+  with-others e = rw (is, e)
 
 -- ---- the role by the part and the message
 

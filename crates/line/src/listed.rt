@@ -90,13 +90,16 @@ fn role_of(part: Part, values: Data) -> Cast
 }
 
 // "a send or receive without its three good data" is 10
-fn with_role(time: i64, processor: usize, cast: Cast) -> Line
-    ensures { λ r. ⌜ r ≡ withRole time processor (castOf cast) ⌝ }
+fn with_role(h: Head, processor: usize, values: Data, cast: Cast) -> Line
+    ensures { λ r. ⌜ r ≡ withRole h processor values (castOf cast) ⌝ }
 {
     match cast {
         Cast::Of(role) => Line::Listed(Record {
-            time: time,
+            time: h.time,
             processor: processor,
+            kind: h.kind,
+            event: h.event,
+            values: values,
             role: role,
         }),
         Cast::Nothing => Line::Refused(Fault::NoMessage),
@@ -104,13 +107,13 @@ fn with_role(time: i64, processor: usize, cast: Cast) -> Line
 }
 
 // "data (5), 10"
-fn with_data(time: i64, processor: usize, part: Part, values: Data) -> Line
-    ensures { λ r. ⌜ r ≡ withData time processor part values ⌝ }
+fn with_data(h: Head, processor: usize, part: Part, values: Data) -> Line
+    ensures { λ r. ⌜ r ≡ withData h processor part values ⌝ }
 {
     match values {
         Data::Malformed => Line::Refused(Fault::Form),
-        Data::Three(_, _, _) => with_role(time, processor, role_of(part, values)),
-        Data::Others => with_role(time, processor, role_of(part, values)),
+        Data::Three(_, _, _) => with_role(h, processor, values, role_of(part, values)),
+        Data::Others => with_role(h, processor, values, role_of(part, values)),
     }
 }
 
@@ -132,5 +135,5 @@ pub(crate) fn listed_line(l: &[u8], h: Head, next: usize) -> Line
         return Line::Refused(Fault::Place);
     };
     let values = fields::read_data(l, next, h.count);
-    with_data(h.time, processor, part_of(h.kind, h.event), values)
+    with_data(h, processor, part_of(h.kind, h.event), values)
 }

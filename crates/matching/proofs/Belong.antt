@@ -1,34 +1,22 @@
 -- "The k-th receive at processor q from p with type t belongs to the k-th send from p to q with type t, both counted in file
 -- order": what the send of a receive is.
-use Prim.Native.Nat.{ℕ, _<_}
-use mathlib.Core.Path.{_≡_, refl, ap}
+use Prim.Native.Nat.{ℕ}
+use native.Mathlib.Omega.{arith}
+use mathlib.Core.Path.{_≡_, refl, sym, ap, _∙_}
 use mathlib.Core.Option.{some, Option·none-ne-some}
 use mathlib.Core.List.{List}
 use lib.ListN.{length, take}
-use Rattle.paper.specs.Matching.{Key, countIf, isReceiveOf, sendPlace, sendFor, entryAt, sendOf}
+use Rattle.paper.specs.Matching.{Key, countIf, isSendOf, isReceiveOf, sendPlace, sendFor, sendOf}
 use Rattle.paper.specs.declared.Message.{Message}
 use Rattle.paper.specs.declared.Role.{Role}
 use Rattle.paper.specs.declared.Role.the-variants.{Neither, Send, Receive}
 use Rattle.paper.specs.declared.Entry.{Entry}
-use Rattle.matching.proofs.Places.{place-answers}
-use Rattle.matching.proofs.Keys.{receiveKey, sends-under}
-
-abbrev pub processorAt : List Entry → ℕ → ℕ
-processorAt es i = entryAt es i .body .processor
-
-abbrev pub roleAt : List Entry → ℕ → Role
-roleAt es i = entryAt es i .body .role
-
--- entry i is a receive of a message, and entry j is a send of one to it: "from p to q with type t"
-pub record Belongs (es : List Entry) (i j : ℕ) : Type 0 where
-  pub within : j < length es
-  pub received : Message
-  pub sent : Message
-  pub receives : roleAt es i ≡ Receive received
-  pub sends : roleAt es j ≡ Send sent
-  pub sender : received .peer ≡ processorAt es j
-  pub receiver : processorAt es i ≡ sent .peer
-  pub tag : received .tag ≡ sent .tag
+use Rattle.matching.specs.Belongs.{Belongs}
+use Rattle.matching.proofs.Count.{count-take}
+use Rattle.matching.proofs.Places.{Kth, sendAt, place-answers}
+use Rattle.matching.proofs.Keys.{sendKey, receiveKey, sends-under}
+-- by names that no processor or role at hand bears
+pub use Rattle.matching.specs.Belongs.{processor as processorAt, role as roleAt}
 
 -- what only a receive has
 pub is-receive : (es : List Entry) (i processor : ℕ) (r : Role) (j : ℕ) → sendFor es i processor r ≡ some j
@@ -39,19 +27,32 @@ is-receive es i processor Neither j h = absurd (Option·none-ne-some j h)
 is-receive es i processor (Send m) j h = absurd (Option·none-ne-some j h)
 is-receive es i processor (Receive m) j h = (m, refl, h)
 
+-- record i received m, and record j is the send under m's key that as many sends under it precede as receives precede record i
+module _ (es : List Entry) (i j : ℕ) (m : Message) where
+  abbrev key : Key
+  key = receiveKey (processorAt es i) m
+
+  kth-belongs : roleAt es i ≡ Receive m → Kth (sendAt key es) (length es) (countIf (isReceiveOf key) (take i es)) j
+      → (s : Message) → roleAt es j ≡ Send s → key ≡ sendKey (processorAt es j) s → Belongs es i j
+  kth-belongs receives kth s sends told =
+      let from : m .peer ≡ processorAt es j = ap (λ (k : Key). k .sender) told in
+      let tag : m .tag ≡ s .tag = ap (λ (k : Key). k .tag) told in
+      record {
+        within = kth .within;
+        received = m;
+        sent = s;
+        receives = receives;
+        sends = sends;
+        from = from;
+        to = sym (ap (λ (k : Key). k .receiver) told);
+        tag = tag;
+        counted = rw (← from, ← tag) (sym (kth .rank) ∙ sym (count-take (isSendOf key) es j (omega (arith, kth .within))));
+      }
+
 pub belongs : (es : List Entry) (i j : ℕ) → sendOf es i ≡ some j → Belongs es i j
 unfolding sendOf
 belongs es i j h =
-    let (m, r, place) = is-receive es i (processorAt es i) (roleAt es i) j h in
+    let (m, receives, place) = is-receive es i (processorAt es i) (roleAt es i) j h in
     let kth = place-answers (receiveKey (processorAt es i) m) _ es .sound j place in
-    let (s, e, key) = sends-under (receiveKey (processorAt es i) m) (processorAt es j) (roleAt es j) (kth .passes) in
-    record {
-      within = kth .within;
-      received = m;
-      sent = s;
-      receives = r;
-      sends = e;
-      sender = ap (λ (k : Key). k .sender) key;
-      receiver = ap (λ (k : Key). k .receiver) key;
-      tag = ap (λ (k : Key). k .tag) key;
-    }
+    let (s, sends, told) = sends-under (receiveKey (processorAt es i) m) (processorAt es j) (roleAt es j) (kth .passes) in
+    kth-belongs es i j m receives kth s sends told

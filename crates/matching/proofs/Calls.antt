@@ -18,7 +18,8 @@ use Rattle.paper.specs.declared.Message.{Message}
 use Rattle.paper.specs.declared.Role.the-variants.{Receive}
 use Rattle.paper.specs.declared.Entry.{Entry}
 use Rattle.paper.specs.declared.Stop.the-variants.{End, At}
-use Rattle.matching.proofs.Belong.{roleAt, Belongs}
+use Rattle.matching.specs.Belongs.{Belongs}
+use Rattle.matching.proofs.Belong.{roleAt}
 
 -- what the entry at place i calls for
 abbrev pub callAt : List Entry → ℕ → Option Fault

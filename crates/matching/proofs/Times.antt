@@ -1,35 +1,30 @@
 -- The times do not matter to the matching: entries that differ in nothing else are matched alike. What is read again from a
 -- written trace differs from what was read in the times alone.
-use Prim.Native.Nat.{ℕ, zero, suc, _+_, _<_}
+use Prim.Native.Nat.{ℕ, zero, suc, _+_}
 use mathlib.Core.Path.{_≡_, refl, sym, ap, _∙_}
 use mathlib.Core.Bool.{Bool}
 use mathlib.Core.Option.{Option, none, some}
 use mathlib.Core.List.{List, [], _∷_, map}
 use lib.ListN.{length, take, length-map, List·getD-map}
-use lib.Seq.{ext-getD}
 use lib.IntN.{pos}
-use Rattle.paper.specs.Clock.{Waits}
-use Rattle.paper.specs.Matching.{Key, countIf, isReceiveOf, sendPlace, sendFor, entryAt, sendOf, callOf, callFor, matchedFrom, matchedOf, isSend, isReceive, matchedCount, unreceivedCount, lastOn, latencyFor, waitsOf}
+use Rattle.paper.specs.Matching.{Key, countIf, isReceiveOf, sendPlace, sendFor, entryAt, sendOf, callOf, callFor, matchedFrom, matchedOf, isSend, isReceive, matchedCount, unreceivedCount}
 use Rattle.paper.specs.declared.Role.{Role}
 use Rattle.paper.specs.declared.Role.the-variants.{Neither, Send, Receive}
 use Rattle.paper.specs.declared.Entry.{Entry}
 use Rattle.matching.proofs.Keys.{receiveKey}
 
--- an entry without its time, and entries
+-- an entry without its time
 abbrev pub untimed : Entry → Entry
-untimed e = record { line = e .line; body = record { time = pos 0; processor = e .body .processor; role = e .body .role } }
+untimed e =
+    let r = e .body in
+    record {
+      line = e .line;
+      body = record { time = pos 0; processor = r .processor; kind = r .kind; event = r .event; values = r .values; role = r .role };
+    }
 
 -- entries that differ in their times alone
 abbrev pub Alike : List Entry → List Entry → Type 0
 Alike es fs = map untimed es ≡ map untimed fs
-
--- waits that differ in their original times alone
-pub record SameWaits (v w : Waits) : Type 0 where
-  pub size : v .size ≡ w .size
-  pub before : (i : ℕ) → v .before i ≡ w .before i
-  pub gap : (i : ℕ) → v .gap i ≡ w .gap i
-  pub send : (i : ℕ) → v .send i ≡ w .send i
-  pub latency : (i : ℕ) → v .latency i ≡ w .latency i
 
 -- ---- without the times all is as with them
 
@@ -67,11 +62,6 @@ module _ (es : List Entry) where
   unfolding sendOf
   send-untimed i = rw (entry-untimed es i) (send-for-untimed i (entryAt es i .body .processor) (entryAt es i .body .role))
 
-  last-untimed : (processor i : ℕ) → lastOn (map untimed es) processor i ≡ lastOn es processor i
-  unfolding lastOn
-  last-untimed processor zero = refl
-  last-untimed processor (suc i) = rw (entry-untimed es i, last-untimed processor i)
-
   call-untimed : (received : ℕ) (o : Option ℕ) → callOf (map untimed es) received o ≡ callOf es received o
   unfolding callOf
   call-untimed received none = refl
@@ -94,13 +84,6 @@ module _ (es : List Entry) where
 
 -- ---- entries that differ in their times alone
 
-pub alike-at : (es fs : List Entry) → length es ≡ length fs
-    → ((i : ℕ) → i < length es → untimed (entryAt es i) ≡ untimed (entryAt fs i)) → Alike es fs
-unfolding entryAt
-alike-at es fs n h =
-    ext-getD (entryAt [] 0) (map untimed es) (map untimed fs) (length-map es untimed ∙ n ∙ sym (length-map fs untimed))
-    (λ i l. List·getD-map untimed es i _ ∙ h i (rw (length-map es untimed) at l) ∙ sym (List·getD-map untimed fs i _))
-
 module _ (es fs : List Entry) (h : Alike es fs) where
   pub same-size : length es ≡ length fs
   same-size = sym (length-map es untimed) ∙ ap length h ∙ length-map fs untimed
@@ -110,9 +93,6 @@ module _ (es fs : List Entry) (h : Alike es fs) where
 
   pub same-send : (i : ℕ) → sendOf es i ≡ sendOf fs i
   same-send i = sym (send-untimed es i) ∙ ap (λ (l : List Entry). sendOf l i) h ∙ send-untimed fs i
-
-  pub same-last : (processor i : ℕ) → lastOn es processor i ≡ lastOn fs processor i
-  same-last processor i = sym (last-untimed es processor i) ∙ ap (λ (l : List Entry). lastOn l processor i) h ∙ last-untimed fs processor i
 
   pub same-matched : matchedOf es ≡ matchedOf fs
   same-matched = sym (matched-untimed es) ∙ ap matchedOf h ∙ matched-untimed fs
@@ -127,15 +107,3 @@ module _ (es fs : List Entry) (h : Alike es fs) where
   pub same-unreceived-count : unreceivedCount es ≡ unreceivedCount fs
   unfolding unreceivedCount
   same-unreceived-count = rw (same-matched-count, same-count (λ e. isSend (e .body .role)) (λ e. refl))
-
-  pub same-waits : (latencies : List ℕ) → SameWaits (waitsOf latencies es) (waitsOf latencies fs)
-  unfolding waitsOf
-  same-waits latencies =
-      record {
-        size = same-size;
-        before = λ i.
-            same-last (entryAt es i .body .processor) i ∙ ap (λ (e : Entry). lastOn fs (e .body .processor) i) (same-entry i);
-        gap = λ i. refl;
-        send = same-send;
-        latency = λ i. ap (λ (e : Entry). latencyFor latencies (e .body .processor) (e .body .role)) (same-entry i);
-      }

@@ -6,11 +6,11 @@ use mathlib.Core.Option.{Option, none, some}
 use mathlib.Core.List.{List}
 use borrow.Author.Tests.{eq-eqb, ne-eqb}
 use lib.ListN.{length, getD, drop}
-use lib.IntN.{ℤ}
 use Rattle.paper.specs.Matching.{entryAt, sendOf, callOf, callFor, lengthSent, onCall, matchedFrom}
 use Rattle.paper.specs.declared.Fault.{Fault}
 use Rattle.paper.specs.declared.Fault.the-variants as Fault
 use Rattle.paper.specs.declared.Message.{Message}
+use Rattle.paper.specs.declared.Role.{Role}
 use Rattle.paper.specs.declared.Role.the-variants.{Neither, Send, Receive}
 use Rattle.paper.specs.declared.Entry.{Entry}
 use Rattle.paper.specs.declared.Stop.{Stop}
@@ -24,30 +24,33 @@ use Rattle.message.specs.Outcome.{stopAt}
 
 -- ---- what a record calls for
 
-module _ (l : List ℤ) (n i : ℕ) (m : i < n) (e : Entry) (h : e ≡ entryFrom l i) where
+module _ (l : List ℕ) (n i : ℕ) (m : i < n) {role : Role} (h : role ≡ entryFrom l i .body .role) where
   abbrev es : List Entry
   es = entriesIn l n
 
-  entry-is : entryAt es i ≡ e
-  entry-is = entry-in l n i m ∙ sym h
+  role-is : entryAt es i .body .role ≡ role
+  role-is = ap (λ (e : Entry). e .body .role) (entry-in l n i m) ∙ sym h
 
   -- a record that is no receive
-  pub calls-neither : e .body .role ≡ Neither → End ≡ stopAt es i
+  pub calls-neither : role ≡ Neither → End ≡ stopAt es i
   unfolding stopAt callFor
-  calls-neither r = rw (entry-is, r)
+  calls-neither r = rw (role-is, r)
 
-  pub calls-send : {x : Message} → e .body .role ≡ Send x → End ≡ stopAt es i
+  pub calls-send : {x : Message} → role ≡ Send x → End ≡ stopAt es i
   unfolding stopAt callFor
-  calls-send r = rw (entry-is, r)
+  calls-send r = rw (role-is, r)
 
-  module _ (x : Message) (r : e .body .role ≡ Receive x) (sends : List ℕ) (p : sends ≡ placesOf es) where
+  module _ (x : Message) (r : role ≡ Receive x) (sends : List ℕ) (p : sends ≡ placesOf es) where
     low : i < length es
     low = rw (length-entries l n) m
 
+    line-is : {line : ℕ} → line ≡ entryFrom l i .line → entryAt es i .line ≡ line
+    line-is e = ap (λ (d : Entry). d .line) (entry-in l n i m) ∙ sym e
+
     -- "receive without a matching send"
-    pub calls-no-send : n ≤ getD sends i 0 → At Fault.NoSend (e .line) ≡ stopAt es i
+    pub calls-no-send : n ≤ getD sends i 0 → {line : ℕ} → line ≡ entryFrom l i .line → At Fault.NoSend line ≡ stopAt es i
     unfolding stopAt callFor callOf
-    calls-no-send g = rw (entry-is, r, has-none es i low (rw (length-entries l n, ← p) g))
+    calls-no-send g e = rw (role-is, r, line-is e, has-none es i low (rw (length-entries l n, ← p) g))
 
     module _ (sent : ℕ) (g : getD sends i 0 < n) (q : sent ≡ lengthSent (entryFrom l (getD sends i 0) .body .role)) where
       its-length : lengthSent (entryAt es (getD sends i 0) .body .role) ≡ sent
@@ -57,13 +60,13 @@ module _ (l : List ℤ) (n i : ℕ) (m : i < n) (e : Entry) (h : e ≡ entryFrom
       its-send = rw p (has-send es i low (rw (length-entries l n, ← p) g))
 
       -- "its length differs from the send's"
-      pub calls-other-length : (x .length ≡ sent → ⊥) → At Fault.OtherLength (e .line) ≡ stopAt es i
+      pub calls-other-length : (x .length ≡ sent → ⊥) → {line : ℕ} → line ≡ entryFrom l i .line → At Fault.OtherLength line ≡ stopAt es i
       unfolding stopAt callFor callOf
-      calls-other-length d = rw (entry-is, r, its-send, its-length, ne-eqb (x .length) sent d)
+      calls-other-length d e = rw (role-is, r, line-is e, its-send, its-length, ne-eqb (x .length) sent d)
 
       pub calls-nothing : x .length ≡ sent → End ≡ stopAt es i
       unfolding stopAt callFor callOf
-      calls-nothing d = rw (entry-is, r, its-send, its-length, eq-eqb (x .length) sent d)
+      calls-nothing d = rw (role-is, r, its-send, its-length, eq-eqb (x .length) sent d)
 
 -- the search for the first call: a turn
 module _ (es : List Entry) (i : ℕ) (m : i < length es) where

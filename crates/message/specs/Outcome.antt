@@ -1,16 +1,15 @@
 -- What matching the messages of a store comes to: the answer, and what the two lent slices hold afterwards.
-use Prim.Native.Nat.{ℕ, _/_}
+use Prim.Native.Nat.{ℕ}
 use mathlib.Core.List.{List}
 use mathlib.Core.Bool.{Bool, true, false, cond, _&&_}
 use lib.ListN.{length, replicate}
-use lib.IntN.{ℤ}
-use lib.Dec.{leb, eqb}
+use lib.Dec.{leb}
 use Rattle.paper.specs.Matching.{entryAt, callFor, onCall, matchedOf, matchedCount, unreceivedCount}
 use Rattle.paper.specs.declared.Entry.{Entry}
 use Rattle.paper.specs.declared.Stop.{Stop}
 use Rattle.paper.specs.declared.Stop.the-variants.{End, At}
-use Rattle.store.specs.Layout.{entriesIn}
-use Rattle.chains.specs.Places.{placesOf}
+use Rattle.store.specs.Layout.{capacity, entriesIn}
+use Rattle.chains.specs.Places.{placesOf, placesFit}
 use Rattle.message.specs.declared.Matching.{Matching}
 use Rattle.message.specs.declared.Matching.the-variants.{Matched, Refused, Misfit}
 
@@ -29,12 +28,12 @@ answerFor es End = Matched (matchedCount es) (unreceivedCount es)
 unfoldable pub answerOf : List Entry → Matching
 answerOf es = answerFor es (matchedOf es)
 
--- as many links as places, and room in the store for as many records
-unfoldable pub fitting : List ℤ → List ℕ → List ℕ → Bool
-fitting store sends link = eqb (length link) (length sends) && leb (length sends) (length store / 7)
+-- as many links as places, not too many of them, and room in the store for as many records
+unfoldable pub fitting : List ℕ → List ℕ → List ℕ → Bool
+fitting store sends link = placesFit sends link && leb (length sends) (capacity store)
 
--- the places of the sends, and the links cleared; where the three do not fit nothing is touched
-unfoldable pub matching : List ℤ → List ℕ → List ℕ → Outcome
+-- the places of the sends, and the links cleared; where the three do not fit, nothing is touched
+unfoldable pub matching : List ℕ → List ℕ → List ℕ → Outcome
 matching store sends link =
     let es = entriesIn store (length sends) in
     cond (fitting store sends link) (outcome (answerOf es) (placesOf es) (replicate (length sends) 0)) (outcome Misfit sends link)

@@ -15,19 +15,11 @@ pub enum Matching {
     // how many messages matched, and how many sends were not received
     Matched(usize, usize),
     Refused(Fault, usize),
-    // the lent slices do not fit the store
+    // what was lent does not fit: `fitting`, specs/Outcome.antt
     Misfit,
 }
 
 // ---- 13 and 14, and the counts
-
-fn role_at(store: &[i64], i: usize) -> Role
-    ensures { λ r. ⌜ r ≡ entryFrom (now (store .entry)) i .body .role ⌝ }
-{
-    let e = store::entry_at(store, i);
-    let body = e.body;
-    body.role
-}
 
 fn length_sent(role: Role) -> u64
     ensures { λ r. ⌜ r ≡ lengthSent role ⌝ }
@@ -40,25 +32,23 @@ fn length_sent(role: Role) -> u64
 }
 
 // What record i calls for: 13 where it is a receive without a send, 14 where its length differs from the send's.
-fn call_at(store: &[i64], sends: &[usize], i: usize) -> Stop
+fn call_at(store: &[u32], sends: &[u32], i: usize) -> Stop
     requires { ⌜ (i < length (now sends)) × (now sends ≡ placesOf (entriesIn (now store) (length (now sends)))) ⌝ }
     ensures { λ r. ⌜ r ≡ stopAt (entriesIn (now (store .entry)) (length (now (sends .entry)))) i ⌝ }
 {
-    let e = store::entry_at(store, i);
-    let body = e.body;
-    let role = body.role;
+    let role = store::role_at(store, i);
     match role {
         Role::Neither => Stop::End,
         Role::Send(_) => Stop::End,
         Role::Receive(m) => {
             let received = m.length;
-            let s = sends[i];
+            let s = sends[i] as usize;
             if sends.len() <= s {
-                return Stop::At(Fault::NoSend, e.line);
+                return Stop::At(Fault::NoSend, store::line_at(store, i));
             }
-            let sent = length_sent(role_at(store, s));
+            let sent = length_sent(store::role_at(store, s));
             if received != sent {
-                return Stop::At(Fault::OtherLength, e.line);
+                return Stop::At(Fault::OtherLength, store::line_at(store, i));
             }
             Stop::End
         }
@@ -66,7 +56,7 @@ fn call_at(store: &[i64], sends: &[usize], i: usize) -> Stop
 }
 
 // The first receive in file order that calls for 13 or 14.
-fn first_call(store: &[i64], sends: &[usize]) -> Stop
+fn first_call(store: &[u32], sends: &[u32]) -> Stop
     requires { ⌜ now sends ≡ placesOf (entriesIn (now store) (length (now sends))) ⌝ }
     ensures { λ r. ⌜ r ≡ matchedOf (entriesIn (now (store .entry)) (length (now (sends .entry)))) ⌝ }
 {
@@ -102,14 +92,14 @@ fn receives_one(role: Role) -> usize
     }
 }
 
-fn counted(store: &[i64], n: usize) -> Matching
+fn counted(store: &[u32], n: usize) -> Matching
     ensures { λ r. ⌜ r ≡ Matching.Matched (matchedCount (entriesIn (now (store .entry)) n)) (unreceivedCount (entriesIn (now (store .entry)) n)) ⌝ }
 {
     let mut received: usize = 0;
     let mut sent: usize = 0;
     let mut i: usize = 0;
     while i < n {
-        let role = role_at(store, i);
+        let role = store::role_at(store, i);
         received += receives_one(role);
         sent += sends_one(role);
         i += 1;
@@ -121,7 +111,7 @@ fn counted(store: &[i64], n: usize) -> Matching
     Matching::Matched(received, unreceived)
 }
 
-fn answered(store: &[i64], sends: &[usize]) -> Matching
+fn answered(store: &[u32], sends: &[u32]) -> Matching
     requires { ⌜ now sends ≡ placesOf (entriesIn (now store) (length (now sends))) ⌝ }
     ensures { λ r. ⌜ r ≡ answerOf (entriesIn (now (store .entry)) (length (now (sends .entry)))) ⌝ }
 {
@@ -137,13 +127,16 @@ fn answered(store: &[i64], sends: &[usize]) -> Matching
 // Matches the records of a store, as many as there are places for their sends: of each receive the place of its send, and where
 // it has none, or is no receive, the number of records. The links are room for the work, as many as the places, and come back
 // cleared.
-pub fn match_messages(store: &[i64], sends: &mut [usize], link: &mut [usize]) -> Matching
+pub fn match_messages(store: &[u32], sends: &mut [u32], link: &mut [u32]) -> Matching
     ensures { λ r. ⌜ outcome r (now (sends .exit)) (now (link .exit)) ≡ matching (now (store .entry)) (now (sends .entry)) (now (link .entry)) ⌝ }
 {
     if link.len() != sends.len() {
         return Matching::Misfit;
     }
-    if store.len() / store::WIDTH < sends.len() {
+    if store::TOO_MANY <= sends.len() {
+        return Matching::Misfit;
+    }
+    if store::capacity(store) < sends.len() {
         return Matching::Misfit;
     }
     chains::find_sends(store, sends, link);

@@ -185,20 +185,25 @@ roleOf Part.Neither d = some Neither
 roleOf Part.Sends d = Option·map Send (messageOf d)
 roleOf Part.Receives d = Option·map Receive (messageOf d)
 
-unfoldable pub withRole : ℤ → ℕ → Option Role → Line
-withRole time processor none = Refused Fault.NoMessage
-withRole time processor (some role) = Listed (record { time = time; processor = processor; role = role })
+-- a record on a processor, as its line has it
+abbrev pub recordOf : Head → ℕ → Data → Role → Record
+recordOf h processor values role =
+    record { time = h .time; processor = processor; kind = h .kind; event = h .event; values = values; role = role }
+
+unfoldable pub withRole : Head → ℕ → Data → Option Role → Line
+withRole h processor values none = Refused Fault.NoMessage
+withRole h processor values (some role) = Listed (recordOf h processor values role)
 
 -- "data (5), 10"
-unfoldable pub withData : ℤ → ℕ → Part → Data → Line
-withData time processor part Malformed = Refused Fault.Form
-withData time processor part (Three a b c) = withRole time processor (roleOf part (Three a b c))
-withData time processor part Others = withRole time processor (roleOf part Others)
+unfoldable pub withData : Head → ℕ → Part → Data → Line
+withData h processor part Malformed = Refused Fault.Form
+withData h processor part (Three a b c) = withRole h processor (Three a b c) (roleOf part (Three a b c))
+withData h processor part Others = withRole h processor Others (roleOf part Others)
 
 -- "then 9"
 unfoldable pub onPlace : Head → Option (List ℕ) → Option ℕ → Line
 onPlace h fields none = Refused Fault.Place
-onPlace h fields (some processor) = withData (h .time) processor (partOf (h .kind) (h .event)) (dataOf (h .count) fields)
+onPlace h fields (some processor) = withData h processor (partOf (h .kind) (h .event)) (dataOf (h .count) fields)
 
 -- "then 9, data (5), 10"
 unfoldable pub listedLine : Head → Option (List ℕ) → Line

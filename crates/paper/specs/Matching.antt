@@ -7,13 +7,12 @@ use lib.ListN.{length, take, getD}
 use lib.IntN.{ℤ, pos}
 use lib.Dec.{eqb}
 use Rattle.paper.specs.Tests.{eqZ}
-use Rattle.paper.specs.Clock.{Waits, listed}
+use Rattle.paper.specs.Clock.{Waits}
 use Rattle.paper.specs.declared.Fault.{Fault}
 use Rattle.paper.specs.declared.Fault.the-variants as Fault
-use Rattle.paper.specs.declared.Message.{Message}
+use Rattle.paper.specs.declared.Data.the-variants.{Others}
 use Rattle.paper.specs.declared.Role.{Role}
 use Rattle.paper.specs.declared.Role.the-variants.{Neither, Send, Receive}
-use Rattle.paper.specs.declared.Record.{Record}
 use Rattle.paper.specs.declared.Entry.{Entry}
 use Rattle.paper.specs.declared.Stop.{Stop}
 use Rattle.paper.specs.declared.Stop.the-variants.{End, At}
@@ -69,9 +68,14 @@ sendFor es i processor (Receive m) =
     let key : Key = record { sender = m .peer; receiver = processor; tag = m .tag } in
     sendPlace key (countIf (isReceiveOf key) (take i es)) es
 
+-- an entry that says nothing
+abbrev pub noEntry : Entry
+noEntry =
+    record { line = 0; body = record { time = pos 0; processor = 0; kind = pos 0; event = pos 0; values = Others; role = Neither } }
+
 -- an entry, or one that says nothing where there is no such place
 unfoldable pub entryAt : List Entry → ℕ → Entry
-entryAt es i = getD es i (record { line = 0; body = record { time = pos 0; processor = 0; role = Neither } })
+entryAt es i = getD es i noEntry
 
 unfoldable pub sendOf : List Entry → ℕ → Option ℕ
 sendOf es i = sendFor es i (entryAt es i .body .processor) (entryAt es i .body .role)

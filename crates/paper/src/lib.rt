@@ -1,7 +1,19 @@
 // Document 01 as definitions. The code of this crate is the words that answers are made of; what they mean stands in specs/,
 // a file to each part of the paper and in the paper's order. The contracts of the other crates cite these definitions.
 
-// What the caller names, with no default.
+// "at most 2,048 listed records"
+pub const MOST: usize = 2048;
+
+// "trace at most 65,536 bytes"
+pub const LONGEST: usize = 65536;
+
+// What the caller names beside the trace and the table, with no default, laid out as C has it.
+#[repr(C)]
+pub struct Asked {
+    pub choice: u32,
+}
+
+// "strict or lenient"
 pub enum Choice {
     Strict,
     Lenient,
@@ -79,10 +91,13 @@ pub enum Role {
     Receive(Message),
 }
 
-// A listed record.
+// A listed record: what its line says of it, and what it is among the messages.
 pub struct Record {
     pub time: i64,
     pub processor: usize,
+    pub kind: i64,
+    pub event: i64,
+    pub values: Data,
     pub role: Role,
 }
 

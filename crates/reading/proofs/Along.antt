@@ -1,7 +1,7 @@
 -- A reading that comes to its end, line by line: each line is passed over, or listed with a time that is not below the last one of its
 -- processor and with room for it. What holds of such a reading is proved by going along it.
 use Prim.Native.Nat.{ℕ, _+_, _<_}
-use mathlib.Core.Path.{_≡_, refl, ap}
+use mathlib.Core.Path.{_≡_, refl, sym, ap, _∙_}
 use mathlib.Core.Bool.{Bool, true, false, cond}
 use mathlib.Core.List.{List, [], _∷_}
 use lib.ListN.{getD}
@@ -111,3 +111,22 @@ module _ (choice : Choice) (most : ℕ) where
       → readOf choice most s ≡ record { stop = End; entries = es; state = st₁ }
   unfolding readOf
   along-back s r = read-back r
+
+-- ---- the limit does not show in a reading that comes to its end
+
+same-along : {choice : Choice} {most most′ : ℕ} {x : Lines} {n : ℕ} {st st₁ st₂ : State} {es fs : List Entry} → Reads choice most x n st es st₁
+    → Reads choice most′ x n st fs st₂ → (es ≡ fs) × (st₁ ≡ st₂)
+same-along ends ends = (refl, refl)
+same-along (passes p more) (passes q more′) = same-along more more′
+same-along (passes p more) (lists q above room more′) = never (cc)
+same-along (lists p above room more) (passes q more′) = never (cc)
+same-along (lists {n = n} {r = r} p above room more) (lists {r = r′} q above′ room′ more′) =
+    let same : r ≡ r′ = cc in
+    let (entries, state) = same-along (rw same at more) more′ in
+    (rw (same, entries), state)
+
+pub one-reading : (choice : Choice) (most most′ : ℕ) (s : List ℕ) → readOf choice most s .stop ≡ End → readOf choice most′ s .stop ≡ End
+    → readOf choice most s ≡ readOf choice most′ s
+one-reading choice most most′ s e e′ =
+    let (entries, state) = same-along (along choice most s e) (along choice most′ s e′) in
+    along-back choice most s (along choice most s e) ∙ (rw (entries, state)) ∙ sym (along-back choice most′ s (along choice most′ s e′))

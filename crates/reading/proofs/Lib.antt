@@ -4,4 +4,6 @@ pub mod Lines
 pub mod Found
 pub mod Joined
 pub mod Along
+pub mod Heads
 pub mod Tidy
+pub mod Starts

@@ -1,20 +1,20 @@
 -- A line whose timestamp is replaced by another good one reads the same but for the time.
-use Prim.Native.Nat.{ℕ, zero, suc}
+use Prim.Native.Nat.{ℕ, suc}
 use mathlib.Core.Path.{_≡_, refl, sym, ap, _∙_}
-use mathlib.Core.List.{List, [], _∷_, _++_}
-use mathlib.Core.Bool.{Bool, true, false, cond, _&&_}
+use mathlib.Core.List.{List, _∷_, _++_}
+use mathlib.Core.Bool.{Bool, true, false, cond}
 use mathlib.Core.Option.{Option, none, some}
-use native.Mathlib.Omega.{arith}
 use lib.IntN.{ℤ}
 use Rattle.paper.specs.Forms.{wholeOf, timeOf}
 use Rattle.paper.specs.Events.{listedKind, standingOf}
-use Rattle.paper.specs.Line.{field, after, goesOn, rest, fieldsAbove, First, nothing, first, onField, onFirst, firstOf, countOf, Begun, bad, six, placeOf, sixOf, headOf, dataOf, placed, partOf, roleOf, withRole, withData, onPlace, listedLine, goodEnd, stepOver, unlisted, sorted, begun, lineOf}
+use Rattle.paper.specs.Line.{field, after, goesOn, rest, fieldsAbove, First, nothing, first, onField, onFirst, firstOf, Begun, bad, six, placeOf, sixOf, headOf, dataOf, placed, partOf, withRole, withData, onPlace, listedLine, goodEnd, stepOver, unlisted, sorted, begun, lineOf}
 use Rattle.paper.specs.Written.{withStamp}
 use Rattle.paper.specs.declared.Choice.{Choice}
 use Rattle.paper.specs.declared.Choice.the-variants as Choice
 use Rattle.paper.specs.declared.Head.{Head}
 use Rattle.paper.specs.declared.Data.{Data}
 use Rattle.paper.specs.declared.Data.the-variants.{Malformed, Three, Others}
+use Rattle.paper.specs.declared.Part.{Part}
 use Rattle.paper.specs.declared.Role.{Role}
 use Rattle.paper.specs.declared.Record.{Record}
 use Rattle.paper.specs.declared.Field.{Field}
@@ -23,29 +23,29 @@ use Rattle.paper.specs.declared.Standing.{Standing}
 use Rattle.paper.specs.declared.Standing.the-variants as Standing
 use Rattle.paper.specs.declared.Fault.{Fault}
 use Rattle.paper.specs.declared.Fault.the-variants as Fault
-use Rattle.paper.specs.declared.Line.{Line}
-use Rattle.paper.specs.declared.Line.the-variants.{Refused, Passed, Listed}
+use Rattle.paper.specs.declared.Line.the-variants.{Refused, Listed}
 use Rattle.forms.specs.Free.{Free}
+use Rattle.forms.proofs.Tests.{both, never}
 use Rattle.reading.specs.Retimed.{headAt, begunAt, recordAt, lineAt}
-use Rattle.reading.proofs.Fields.{field-of, after-of, goes-on, rest-of, field-free}
+use Rattle.reading.proofs.Fields.{field-of, after-of, goes-on, field-free}
 
 -- ---- what stands behind the six fields does not look at the time
 
-role-at : (t t₀ : ℤ) (p : ℕ) (o : Option Role) → withRole t p o ≡ lineAt t (withRole t₀ p o)
+role-at : (t : ℤ) (h : Head) (p : ℕ) (d : Data) (o : Option Role) → withRole (headAt t h) p d o ≡ lineAt t (withRole h p d o)
 unfolding withRole lineAt
-role-at t t₀ p none = refl
-role-at t t₀ p (some role) = refl
+role-at t h p d none = refl
+role-at t h p d (some role) = refl
 
-data-at : (t t₀ : ℤ) (p : ℕ) (h : Head) (d : Data) → withData t p (partOf (h .kind) (h .event)) d ≡ lineAt t (withData t₀ p (partOf (h .kind) (h .event)) d)
+data-at : (t : ℤ) (h : Head) (p : ℕ) (part : Part) (d : Data) → withData (headAt t h) p part d ≡ lineAt t (withData h p part d)
 unfolding withData lineAt
-data-at t t₀ p h Malformed = refl
-data-at t t₀ p h (Three a b c) = role-at t t₀ p _
-data-at t t₀ p h Others = role-at t t₀ p _
+data-at t h p part Malformed = refl
+data-at t h p part (Three a b c) = role-at t h p (Three a b c) _
+data-at t h p part Others = role-at t h p Others _
 
 place-at : (t : ℤ) (h : Head) (fields : Option (List ℕ)) (o : Option ℕ) → onPlace (headAt t h) fields o ≡ lineAt t (onPlace h fields o)
 unfolding onPlace lineAt
 place-at t h fields none = refl
-place-at t h fields (some p) = data-at t (h .time) p h (dataOf (h .count) fields)
+place-at t h fields (some p) = data-at t h p (partOf (h .kind) (h .event)) (dataOf (h .count) fields)
 
 listed-at : (t : ℤ) (h : Head) (fields : Option (List ℕ)) → listedLine (headAt t h) fields ≡ lineAt t (listedLine h fields)
 unfolding listedLine
@@ -126,10 +126,6 @@ opened-at t Bad b c fields fields₁ h e = cc
 opened-at t (Good k) Bad c fields fields₁ h e = cc
 opened-at t (Good k) (Good v) Bad fields fields₁ h e = cc
 opened-at t (Good k) (Good v) (Good u) fields fields₁ h e = behind-at t k v u fields ∙ ap (begunAt t) e ∙ unfold begunAt in refl
-
-both : (a b : Bool) → (a && b) ≡ true → (a ≡ true) × (b ≡ true)
-both true b e = (refl, e)
-both false b e = (cc, cc)
 
 above : (n : ℕ) (l : List ℕ) → fieldsAbove (suc n) l ≡ true → (goesOn l ≡ true) × (fieldsAbove n (after l) ≡ true)
 unfolding fieldsAbove
@@ -222,3 +218,47 @@ module _ (l s : List ℕ) (t : ℤ) (good : timeOf s ≡ Good t) (free : Free 32
       go : (x : Begun) → headOf l ≡ x → begun choice x ≡ Listed r → lineOf choice (withStamp s l) ≡ Listed (recordAt t r)
       go (bad fault) p e = cc
       go (six h fields) p e = let q : lineOf choice l ≡ Listed r = rw p e in line-stamped choice h fields p ∙ ap (lineAt t) q
+
+-- ---- the stamp of a listed line
+
+opened-time : (a b c : Field) (fields fields₁ : Option (List ℕ)) (h : Head) → opened a b c fields ≡ six h fields₁ → c ≡ Good (h .time)
+unfolding opened begunAt
+opened-time Bad b c fields fields₁ h e = cc
+opened-time (Good k) Bad c fields fields₁ h e = cc
+opened-time (Good k) (Good v) Bad fields fields₁ h e = cc
+opened-time (Good k) (Good v) (Good u) fields fields₁ h e =
+    let again : six h fields₁ ≡ six (headAt u h) fields₁ = sym e ∙ behind-at u k v u fields ∙ ap (begunAt u) e in
+    let same : h ≡ headAt u h = cc in
+    ap (λ (x : Head). Good (x .time)) (sym same)
+
+-- its third field is its time, with a space behind each of the first three
+pub record Timed (l : List ℕ) (t : ℤ) : Type 0 where
+  pub one : goesOn l ≡ true
+  pub two : goesOn (after l) ≡ true
+  pub three : goesOn (after (after l)) ≡ true
+  pub stamp : timeOf (field (after (after l))) ≡ Good t
+
+timed-head : (l : List ℕ) (h : Head) (fields : Option (List ℕ)) → headOf l ≡ six h fields → Timed l (h .time)
+timed-head l h fields e =
+    let q = has-six l h fields e in
+    let g₀ = above 4 l (q .0) in
+    let g₁ = above 3 (after l) (g₀ .1) in
+    let g₂ = above 2 (after (after l)) (g₁ .1) in
+    record {
+      one = g₀ .0;
+      two = g₁ .0;
+      three = g₂ .0;
+      stamp = opened-time _ _ (timeOf (field (after (after l)))) _ _ h (sym (sixes l (g₀ .0) (g₁ .0) (g₂ .0)) ∙ q .1);
+    }
+
+-- the record's time is the head's: with that put in again it is the same record
+pub timed-line : (choice : Choice) (l : List ℕ) (r : Record) → lineOf choice l ≡ Listed r → Timed l (r .time)
+unfolding lineOf begun begunAt lineAt
+timed-line choice l r e = go (headOf l) refl e
+  where
+    go : (x : Begun) → headOf l ≡ x → begun choice x ≡ Listed r → Timed l (r .time)
+    go (bad fault) p e = never (cc)
+    go (six h fields) p e =
+        let again : Listed r ≡ Listed (recordAt (h .time) r) = sym e ∙ begun-at (h .time) choice (six h fields) ∙ ap (lineAt (h .time)) e in
+        let same : r ≡ recordAt (h .time) r = cc in
+        rw (ap (λ (x : Record). x .time) same) (timed-head l h fields p)

@@ -1,9 +1,9 @@
 -- Every listed record is tidy.
 use Prim.Native.Nat.{ℕ, zero, suc, _≤_, _<_}
-use mathlib.Core.Path.{_≡_, refl, sym, ap, _∙_}
+use mathlib.Core.Path.{_≡_, refl}
 use mathlib.Core.List.{List, [], _∷_}
 use mathlib.Core.Bool.{Bool, true, false, cond, _&&_}
-use mathlib.Core.Option.{Option, none, some, Option·map}
+use mathlib.Core.Option.{Option, none, some}
 use native.Mathlib.Omega.{arith}
 use lib.IntN.{ℤ, pos, negsuc, natAbs}
 use lib.Signed.{leZ}
@@ -12,7 +12,7 @@ use borrow.Author.Tests.{leb-true}
 use Rattle.paper.specs.Tests.{eqZ, upTo}
 use Rattle.paper.specs.Forms.{wholeOf, timeOf}
 use Rattle.paper.specs.Events.{listedKind, standingOf}
-use Rattle.paper.specs.Line.{field, rest, First, nothing, first, onField, onFirst, firstOf, pushed, valuesOf, asWholes, asOthers, described, dataOf, placed, partOf, messageOf, roleOf, withRole, withData, onPlace, listedLine, goodEnd, stepOver, unlisted, sorted, Begun, bad, six, begun, headOf, lineOf}
+use Rattle.paper.specs.Line.{field, rest, First, nothing, first, onField, onFirst, firstOf, pushed, valuesOf, asWholes, asOthers, described, dataOf, placed, partOf, messageOf, roleOf, recordOf, withRole, withData, onPlace, listedLine, goodEnd, stepOver, unlisted, sorted, Begun, bad, six, begun, headOf, lineOf}
 use Rattle.paper.specs.declared.Choice.{Choice}
 use Rattle.paper.specs.declared.Choice.the-variants as Choice
 use Rattle.paper.specs.declared.Head.{Head}
@@ -29,10 +29,11 @@ use Rattle.paper.specs.declared.Record.{Record}
 use Rattle.paper.specs.declared.Fault.the-variants as Fault
 use Rattle.paper.specs.declared.Standing.{Standing}
 use Rattle.paper.specs.declared.Standing.the-variants as Standing
-use Rattle.paper.specs.declared.Line.{Line}
-use Rattle.paper.specs.declared.Line.the-variants.{Refused, Passed, Listed}
+use Rattle.paper.specs.declared.Line.the-variants.{Refused, Listed}
 use Rattle.forms.proofs.Goods.{whole-in-range}
-use Rattle.reading.specs.Tidy.{TidyMessage, TidyRole, TidyRecord, TidyData, TidyLine}
+use Rattle.forms.proofs.Tests.{both, never}
+use Rattle.reading.specs.Tidy.{InRange, Whole, TidyMessage, TidyRole, TidyData, Says, TidyRecord, TidyLine}
+use Rattle.reading.proofs.Heads.{TidyHead, TidyBegun, tidy-head}
 
 -- the two cases of a test
 test : {A : Type 0} (P : A → Type 0) (b : Bool) (x y : A) → (b ≡ true → P x) → P y → P (cond b x y)
@@ -46,25 +47,39 @@ unfolding asOthers
 tidy-others none = tt
 tidy-others (some vs) = tt
 
-tidy-pushed : (v : ℤ) (o : Option (List ℤ)) → natAbs v ≤ 999999999 → TidyData (asWholes (pushed v o))
-unfolding asWholes
-tidy-pushed v none h = tt
-tidy-pushed v (some []) h = tt
-tidy-pushed v (some (a ∷ [])) h = tt
-tidy-pushed v (some (a ∷ b ∷ [])) h = h
-tidy-pushed v (some (a ∷ b ∷ c ∷ vs)) h = tt
+-- each of the values is a whole number
+abbrev Wholes : List ℤ → Type 0
+Wholes [] = Unit
+Wholes (v ∷ vs) = Whole v × Wholes vs
 
-tidy-wholes : (n : ℕ) (f : Option (List ℕ)) → TidyData (asWholes (valuesOf wholeOf n f))
-unfolding valuesOf firstOf asWholes
-tidy-wholes zero none = tt
-tidy-wholes zero (some l) = tt
-tidy-wholes (suc n) none = tt
-tidy-wholes (suc n) (some l) = go (wholeOf (field l)) refl
+abbrev AllWhole : Option (List ℤ) → Type 0
+AllWhole none = Unit
+AllWhole (some vs) = Wholes vs
+
+whole-pushed : (v : ℤ) (o : Option (List ℤ)) → Whole v → AllWhole o → AllWhole (pushed v o)
+whole-pushed v none h k = tt
+whole-pushed v (some vs) h k = (h, k)
+
+whole-values : (n : ℕ) (f : Option (List ℕ)) → AllWhole (valuesOf wholeOf n f)
+unfolding valuesOf firstOf
+whole-values zero none = tt
+whole-values zero (some l) = tt
+whole-values (suc n) none = tt
+whole-values (suc n) (some l) = go (wholeOf (field l)) refl (whole-values n (rest l))
   where
-    go : (x : Field) → wholeOf (field l) ≡ x
-        → TidyData (asWholes (onFirst (onField x nothing (λ v. first v (rest l))) none (λ v g. pushed v (valuesOf wholeOf n g))))
-    go (Good v) e = tidy-pushed v (valuesOf wholeOf n (rest l)) (whole-in-range (field l) v e)
-    go Bad e = tt
+    go : (x : Field) → wholeOf (field l) ≡ x → AllWhole (valuesOf wholeOf n (rest l))
+        → AllWhole (onFirst (onField x nothing (λ v. first v (rest l))) none (λ v g. pushed v (valuesOf wholeOf n g)))
+    go (Good v) e later = whole-pushed v (valuesOf wholeOf n (rest l)) (whole-in-range (field l) v e) later
+    go Bad e later = tt
+
+tidy-wholes : (o : Option (List ℤ)) → AllWhole o → TidyData (asWholes o)
+unfolding asWholes
+tidy-wholes none h = tt
+tidy-wholes (some []) h = tt
+tidy-wholes (some (a ∷ [])) h = tt
+tidy-wholes (some (a ∷ b ∷ [])) h = tt
+tidy-wholes (some (a ∷ b ∷ c ∷ [])) h = (h .0, h .1 .0, h .1 .1 .0)
+tidy-wholes (some (a ∷ b ∷ c ∷ d ∷ more)) h = tt
 
 tidy-data : (n : ℕ) (f : Option (List ℕ)) → TidyData (dataOf n f)
 unfolding dataOf described
@@ -74,58 +89,68 @@ tidy-data (suc n) f = test TidyData (leb (suc n) 16) _ Malformed (λ h. go (firs
     go : (x : First) → TidyData (onFirst x Malformed (λ d g. described (suc n) d g))
     go nothing = tt
     go (first d g) =
-        test TidyData (eqZ d (pos 2)) _ _ (λ h. tidy-wholes (suc n) g)
+        test TidyData (eqZ d (pos 2)) _ _ (λ h. tidy-wholes (valuesOf wholeOf (suc n) g) (whole-values (suc n) g))
         (test TidyData (eqZ d (pos 5)) _ Malformed (λ h. tidy-others (valuesOf timeOf (suc n) g)) tt)
 
 -- ---- the message
-
-both : (a b : Bool) → (a && b) ≡ true → (a ≡ true) × (b ≡ true)
-both true b e = (refl, e)
-both false b e = (cc, cc)
 
 up-to-below : (n : ℕ) (z : ℤ) → upTo n z ≡ true → natAbs z ≤ n
 up-to-below n (pos m) e = leb-true m n (both (leb 0 m) (leb m n) e .1)
 up-to-below n (negsuc m) e = absurd (let q : _≡_ {A = ℕ} 0 1 = cc in omega arith)
 
-tidy-named : (role : Message → Role) → ((m : Message) → TidyMessage m → TidyRole (role m)) → (t : ℤ) (p : ℕ) → p < 64 → (d : Data) → TidyData d
-    → TidyLine (withRole t p (Option·map role (messageOf d)))
-unfolding withRole messageOf
-tidy-named role h t p l Malformed k = tt
-tidy-named role h t p l Others k = tt
-tidy-named role h t p l (Three a b c) k = go (leZ (pos 0) a && upTo 63 c) refl
+tidy-message : (d : Data) → TidyData d → (m : Message) → messageOf d ≡ some m → TidyMessage m
+unfolding messageOf
+tidy-message Malformed k m e = never (cc)
+tidy-message Others k m e = never (cc)
+tidy-message (Three a b c) k m e = go (leZ (pos 0) a && upTo 63 c) refl e
   where
-    go : (x : Bool) → (leZ (pos 0) a && upTo 63 c) ≡ x
-        → TidyLine (withRole t p (Option·map role (cond x (some (record { length = natAbs a; tag = b; peer = natAbs c })) none)))
-    go true e =
-        record {
-          processor = l;
-          role = h _ (record { length = k; peer = omega (arith, up-to-below 63 c (both (leZ (pos 0) a) (upTo 63 c) e .1)) });
-        }
-    go false e = tt
+    go : (x : Bool) → (leZ (pos 0) a && upTo 63 c) ≡ x → cond x (some (record { length = natAbs a; tag = b; peer = natAbs c })) none ≡ some m
+        → TidyMessage m
+    go true p e =
+        let same : record { length = natAbs a; tag = b; peer = natAbs c } ≡ m = cc in
+        rw (← same) (record { length = k .0; peer = omega (arith, up-to-below 63 c (both (leZ (pos 0) a) (upTo 63 c) p .1)) })
+    go false p e = never (cc)
 
-tidy-role : (part : Part) (t : ℤ) (p : ℕ) → p < 64 → (d : Data) → TidyData d → TidyLine (withRole t p (roleOf part d))
-unfolding roleOf withRole
-tidy-role Part.Neither t p l d k = record { processor = l; role = tt }
-tidy-role Part.Sends t p l d k = tidy-named Role.Send (λ m h. h) t p l d k
-tidy-role Part.Receives t p l d k = tidy-named Role.Receive (λ m h. h) t p l d k
+-- ---- the record
 
-tidy-with : (part : Part) (t : ℤ) (p : ℕ) → p < 64 → (d : Data) → TidyData d → TidyLine (withData t p part d)
-unfolding withData
-tidy-with part t p l Malformed k = tt
-tidy-with part t p l (Three a b c) k = tidy-role part t p l (Three a b c) k
-tidy-with part t p l Others k = tidy-role part t p l Others k
+module _ (h : Head) (head : TidyHead h) (p : ℕ) (place : p < 64) where
+  tidy-kept : (d : Data) → TidyData d → (r : Role) → TidyRole r → Says r d → TidyRecord (recordOf h p d r)
+  tidy-kept d k r t s =
+      record {
+        time = head .time;
+        processor = place;
+        kind = head .kind;
+        event = head .event;
+        values = k;
+        role = t;
+        says = s;
+      }
+
+  tidy-part : (part : Part) (d : Data) → TidyData d → (o : Option Message) → messageOf d ≡ o → TidyLine (withRole h p d (roleOf part d))
+  unfolding roleOf withRole
+  tidy-part Part.Neither d k o e = tidy-kept d k Role.Neither tt tt
+  tidy-part Part.Sends d k none e = rw e tt
+  tidy-part Part.Sends d k (some m) e = rw e (tidy-kept d k (Role.Send m) (tidy-message d k m e) e)
+  tidy-part Part.Receives d k none e = rw e tt
+  tidy-part Part.Receives d k (some m) e = rw e (tidy-kept d k (Role.Receive m) (tidy-message d k m e) e)
+
+  tidy-with : (part : Part) (d : Data) → TidyData d → TidyLine (withData h p part d)
+  unfolding withData
+  tidy-with part Malformed k = tt
+  tidy-with part (Three a b c) k = tidy-part part (Three a b c) k _ refl
+  tidy-with part Others k = tidy-part part Others k _ refl
 
 -- ---- the line
 
-tidy-listed : (h : Head) (f : Option (List ℕ)) → TidyLine (listedLine h f)
+tidy-listed : (h : Head) → TidyHead h → (f : Option (List ℕ)) → TidyLine (listedLine h f)
 unfolding listedLine placed onPlace
-tidy-listed h f = go (upTo 63 (h .processor) && eqZ (h .process) (pos 0)) refl
+tidy-listed h head f = go (upTo 63 (h .processor) && eqZ (h .process) (pos 0)) refl
   where
     go : (x : Bool) → (upTo 63 (h .processor) && eqZ (h .process) (pos 0)) ≡ x → TidyLine (onPlace h f (cond x (some (natAbs (h .processor))) none))
     go true e =
-        tidy-with (partOf (h .kind) (h .event)) (h .time) (natAbs (h .processor))
+        tidy-with h head (natAbs (h .processor))
         (omega (arith, up-to-below 63 (h .processor) (both (upTo 63 (h .processor)) (eqZ (h .process) (pos 0)) e .0)))
-        (dataOf (h .count) f) (tidy-data (h .count) f)
+        (partOf (h .kind) (h .event)) (dataOf (h .count) f) (tidy-data (h .count) f)
     go false e = tt
 
 tidy-over : (choice : Choice) → TidyLine (stepOver choice)
@@ -137,23 +162,27 @@ tidy-unlisted : (choice : Choice) (h : Head) (f : Option (List ℕ)) → TidyLin
 unfolding unlisted
 tidy-unlisted choice h f = test TidyLine (goodEnd (h .count) f) (stepOver choice) (Refused Fault.Form) (λ e. tidy-over choice) tt
 
-tidy-sorted : (choice : Choice) (h : Head) (f : Option (List ℕ)) (s : Standing) → TidyLine (sorted choice h f s)
+tidy-sorted : (choice : Choice) (h : Head) → TidyHead h → (f : Option (List ℕ)) (s : Standing) → TidyLine (sorted choice h f s)
 unfolding sorted
-tidy-sorted choice h f Standing.NotHandled = tt
-tidy-sorted choice h f Standing.Unlisted = tidy-unlisted choice h f
-tidy-sorted choice h f Standing.Message = tidy-listed h f
-tidy-sorted choice h f Standing.Listed = tidy-listed h f
+tidy-sorted choice h head f Standing.NotHandled = tt
+tidy-sorted choice h head f Standing.Unlisted = tidy-unlisted choice h f
+tidy-sorted choice h head f Standing.Message = tidy-listed h head f
+tidy-sorted choice h head f Standing.Listed = tidy-listed h head f
 
-tidy-begun : (choice : Choice) (x : Begun) → TidyLine (begun choice x)
+tidy-begun : (choice : Choice) (x : Begun) → TidyBegun x → TidyLine (begun choice x)
 unfolding begun
-tidy-begun choice (bad fault) = tt
-tidy-begun choice (six h f) =
+tidy-begun choice (bad fault) head = tt
+tidy-begun choice (six h f) head =
     test TidyLine (listedKind (h .kind)) (sorted choice h f (standingOf (h .event))) (unlisted choice h f)
-    (λ e. tidy-sorted choice h f (standingOf (h .event))) (tidy-unlisted choice h f)
+    (λ e. tidy-sorted choice h head f (standingOf (h .event))) (tidy-unlisted choice h f)
 
 pub tidy-line : (choice : Choice) (l : List ℕ) → TidyLine (lineOf choice l)
 unfolding lineOf
-tidy-line choice l = tidy-begun choice (headOf l)
+tidy-line choice l = tidy-begun choice (headOf l) (tidy-head l)
 
 pub tidy-record : (choice : Choice) (l : List ℕ) (r : Record) → lineOf choice l ≡ Listed r → TidyRecord r
 tidy-record choice l r e = rw e at (tidy-line choice l)
+
+-- of which the order of the records needs the time alone
+pub time-of-line : (choice : Choice) (l : List ℕ) (r : Record) → lineOf choice l ≡ Listed r → InRange (r .time)
+time-of-line choice l r e = tidy-record choice l r e .time

@@ -1,6 +1,6 @@
 -- Lines one after the other, and a reading that goes on where another ended.
 use Prim.Native.Nat.{ℕ, suc}
-use mathlib.Core.List.{List, _∷_, _++_}
+use mathlib.Core.List.{List, _++_}
 use Rattle.paper.specs.Reading.{Lines, done, unended, ended, State, Reading}
 use Rattle.paper.specs.declared.Entry.{Entry}
 use Rattle.paper.specs.declared.Stop.{Stop}

@@ -1,3 +1,4 @@
 pub mod Retimed
 pub mod Joined
 pub mod Tidy
+pub mod Starts

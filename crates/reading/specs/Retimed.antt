@@ -22,7 +22,15 @@ begunAt t (bad fault) = bad fault
 begunAt t (six h fields) = six (headAt t h) fields
 
 abbrev pub recordAt : ℤ → Record → Record
-recordAt t r = record { time = t; processor = r .processor; role = r .role }
+recordAt t r =
+    record {
+      time = t;
+      processor = r .processor;
+      kind = r .kind;
+      event = r .event;
+      values = r .values;
+      role = r .role;
+    }
 
 unfoldable pub lineAt : ℤ → Line → Line
 lineAt t (Refused fault) = Refused fault

@@ -1,5 +1,5 @@
 -- The first records alone, where they wait for each other only: round by round they have the times that they have in the whole.
-use Prim.Native.Nat.{ℕ, zero, suc, _≤_, _<_}
+use Prim.Native.Nat.{ℕ, zero, suc, _<_}
 use native.Mathlib.Omega.{arith}
 use mathlib.Core.Path.{_≡_, sym, _∙_}
 use mathlib.Core.List.{List}
@@ -9,7 +9,7 @@ use Rattle.rounds.specs.Meaning.{Closed}
 use Rattle.rounds.specs.Compare.{First}
 use Rattle.rounds.proofs.Next.{next-same}
 use Rattle.rounds.proofs.Rounds.{repeat-least, least-unique}
-use Rattle.rounds.proofs.Meaning.{settled-answer, settled-round, sound-settles}
+use Rattle.rounds.proofs.Meaning.{settled-answer, settled-round}
 
 module _ (w v : Waits) (first : First w v) where
   next-first : (x : ℕ → ℤ) (i : ℕ) → i < w .size → next w x i ≡ next v x i
@@ -36,16 +36,6 @@ module _ (w v : Waits) (first : First w v) where
       least-first : Least w (round w m)
       least-first = repeat-least w cw m repeats-first (λ i i<. rw (time-first i i<) (settled-answer v cv whole .least .sound .within i (inside i<)))
 
-      -- where the whole has times, so have the first records
-      pub first-settled : (k : ℕ) × (xs : List ℤ) × (settle w ≡ settled k xs)
-      first-settled = sound-settles w cw (least-first .sound)
-
       -- the same times
       pub first-times : {k : ℕ} {xs : List ℤ} → settle w ≡ settled k xs → (i : ℕ) → i < w .size → timeAt xs i ≡ timeAt ys i
       first-times part i i< = least-unique (settled-answer w cw part .least) least-first i i< ∙ time-first i i<
-
-      -- and no more rounds
-      pub first-rounds : {k : ℕ} {xs : List ℤ} → settle w ≡ settled k xs → k ≤ m
-      first-rounds {k} part =
-          let late : ¬ (m < k) = λ l. settled-answer w cw part .first m l repeats-first in
-          omega arith

@@ -5,15 +5,14 @@ use mathlib.Core.Path.{_≡_, sym, _∙_}
 use mathlib.Core.Logic.{_↔_, inl, inr, ⊎-elim}
 use mathlib.Core.List.{List}
 use lib.IntN.{ℤ}
-use lib.Signed.{_≤ℤ_, _<ℤ_, ≤ℤ-refl, <ℤ-irrefl}
+use lib.Signed.{_≤ℤ_, _<ℤ_, <ℤ-irrefl}
 use Rattle.paper.specs.Clock.{Waits, Sound, round, listed, timeAt, settled, settle}
-use Rattle.rounds.specs.Meaning.{on-before, on-send, Closed, Answer}
-use Rattle.rounds.specs.Compare.{retimed}
+use Rattle.rounds.specs.Meaning.{Closed, Answer}
 use Rattle.rounds.proofs.Order.{≤ℤ-antisym, compare}
 use Rattle.rounds.proofs.Counting.{some-or-all}
 use Rattle.rounds.proofs.Next.{next-own}
 use Rattle.rounds.proofs.Rounds.{next-sound}
-use Rattle.rounds.proofs.Lists.{length-listed, listed-at, listed-times}
+use Rattle.rounds.proofs.Lists.{length-listed, listed-at}
 use Rattle.rounds.proofs.Stops.{sound-same, stop-settled}
 use Rattle.rounds.proofs.Meaning.{means-settle, settled-answer, settled-round}
 
@@ -61,22 +60,3 @@ module _ (w : Waits) (closed : Closed w) where
         of (i, i<, less) =
             let some : ¬ (k ≡ 0) = λ e. <ℤ-irrefl (rw (still-iff .0 e i i<) at less) in
             omega arith
-
-retimed-closed : (w : Waits) → Closed w → (x : ℕ → ℤ) → Closed (retimed w x)
-unfolding retimed
-retimed-closed w closed x i j v i< (on-before e) = closed i j v i< (on-before e)
-retimed-closed w closed x i j v i< (on-send e) = closed i j v i< (on-send e)
-
--- the settled times, taken as originals and settled again, are themselves, in round 0
-pub again : (w : Waits) → Closed w → {k : ℕ} {xs : List ℤ} → settle w ≡ settled k xs → settle (retimed w (timeAt xs)) ≡ settled 0 xs
-unfolding retimed
-again w closed {k} {xs} answer =
-    let a = settled-answer w closed answer in
-    let v = retimed w (timeAt xs) in
-    let sound : Sound v (timeAt xs) = record {
-      above = λ i i<. ≤ℤ-refl (timeAt xs i);
-      within = a .least .sound .within;
-      order = a .least .sound .order;
-      clock = a .least .sound .clock;
-    } in
-    still-settled v (retimed-closed w closed (timeAt xs)) sound ∙ rw (← a .size, listed-times xs)

@@ -1,7 +1,6 @@
 -- Two traces' waits compared.
 use Prim.Native.Nat.{ℕ, _≤_, _<_}
 use mathlib.Core.Path.{_≡_}
-use lib.IntN.{ℤ}
 use Rattle.paper.specs.Clock.{Waits}
 
 -- the same records under larger latencies and gaps
@@ -21,14 +20,3 @@ pub record First (w v : Waits) : Type 0 where
   pub gap : (i : ℕ) → i < w .size → w .gap i ≡ v .gap i
   pub send : (i : ℕ) → i < w .size → w .send i ≡ v .send i
   pub latency : (i : ℕ) → i < w .size → w .latency i ≡ v .latency i
-
--- the same records with these times for originals, as in the written trace
-unfoldable pub retimed : Waits → (ℕ → ℤ) → Waits
-retimed w x = record {
-  size = w .size;
-  original = x;
-  before = w .before;
-  gap = w .gap;
-  send = w .send;
-  latency = w .latency;
-}

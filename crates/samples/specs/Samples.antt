@@ -7,7 +7,6 @@ use mathlib.Core.List.{List, [], _∷_, _++_}
 use lib.ListN.{length, take, drop, set, replicate}
 use lib.IntN.{ℤ, pos, negsuc}
 use Rattle.paper.specs.Answer.{Inputs, Outcome, judge}
-use Rattle.paper.specs.declared.Answer.{Answer}
 use Rattle.paper.specs.Text.{bytesOf}
 
 -- ---- the traces
@@ -42,7 +41,7 @@ lent = replicate 2048 (pos 7)
 
 abbrev given : List ℕ → List ℕ → ℕ → Inputs
 given trace latencies choice =
-    record { trace = trace; latencies = latencies; choice = choice; times = lent; wanted = false; room = [] }
+    record { trace = trace; latencies = latencies; asked = record { choice = choice }; times = lent; wanted = false; room = [] }
 
 -- ---- the outcomes
 

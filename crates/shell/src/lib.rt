@@ -4,6 +4,7 @@ mod print;
 
 ghost use Rattle.io.specs.Counts.{Counts};
 use paper::Answer;
+use paper::Asked;
 
 // The whole program. An argument that is missing or longer than any name is handed on as an empty one, which is no choice and no
 // file's name.
@@ -92,7 +93,8 @@ fn judge_into(trace: &[u8], latencies: &[u32], choice: u32, wanted: bool, room: 
     ensures { λ r. ⌜ Counts (r .written) (now (room .exit)) ⌝ }
 {
     let mut times = [0i64; 2048];
-    judge::judge(trace, latencies, choice, &mut times, wanted, room)
+    let asked = Asked { choice: choice };
+    judge::judge(trace, latencies, asked, &mut times, wanted, room)
 }
 
 // Whether what was asked for is in the file: a refusal, and an answer whose trace is not wanted, ask for nothing.

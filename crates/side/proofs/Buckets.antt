@@ -5,10 +5,7 @@ use mathlib.Core.Bool.{Bool, true, false}
 use mathlib.Core.List.{List}
 use borrow.Author.Tests.{eqb-false, eq-eqb}
 use lib.Dec.{eqb}
-use lib.IntN.{ℤ}
-use Rattle.paper.specs.Matching as Paper
 use Rattle.paper.specs.Matching.{sameKey}
-use Rattle.paper.specs.declared.Role.the-variants as Role
 use Rattle.matching.proofs.Keys.{same-key}
 use Rattle.side.specs.declared.Key.{Key}
 use Rattle.side.specs.declared.Side.{Side}
@@ -32,7 +29,7 @@ receives-hidden key (Sends k) h = refl
 receives-hidden key (Receives k) h = other-key key k h (sameKey (keyOf key) (keyOf k)) refl
 
 -- what is not in the bucket of a key is not under the key
-module _ (l : List ℤ) (key : Key) (i : ℕ) where
+module _ (l : List ℕ) (key : Key) (i : ℕ) where
   pub no-send-in : sendsIn (bucketOf key) (sideAt l i) ≡ false → sendUnder l key i ≡ false
   no-send-in h = sym (send-by l key i {side = sideAt l i} refl refl) ∙ sends-hidden key (sideAt l i) h
 
@@ -45,5 +42,5 @@ sends-shown key Neither h = h
 sends-shown key (Sends k) h = eq-eqb _ _ (sym (bucket-same key k (same-key (keyOf key) (keyOf k) h)))
 sends-shown key (Receives k) h = h
 
-pub send-in : (l : List ℤ) (key : Key) (i : ℕ) → sendUnder l key i ≡ true → sendsIn (bucketOf key) (sideAt l i) ≡ true
+pub send-in : (l : List ℕ) (key : Key) (i : ℕ) → sendUnder l key i ≡ true → sendsIn (bucketOf key) (sideAt l i) ≡ true
 send-in l key i h = sends-shown key (sideAt l i) (send-by l key i {side = sideAt l i} refl refl ∙ h)

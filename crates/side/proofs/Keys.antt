@@ -11,9 +11,8 @@ use mir.Val.{toZ, ofZ}
 use Rattle.paper.specs.Tests.{eqZ}
 use Rattle.paper.specs.Matching as Paper
 use Rattle.paper.specs.Matching.{sameKey}
-use Rattle.paper.specs.declared.Role.the-variants as Role
 use Rattle.matching.proofs.Keys.{eqZ-true, eqZ-same}
-use Rattle.store.specs.Layout.{natural}
+use Rattle.signed.specs.Codes.{codeOf}
 use Rattle.side.specs.declared.Key.{Key}
 use Rattle.side.specs.Sides.{keyOf, bucketOf}
 
@@ -41,7 +40,7 @@ module _ (a b : Key) where
   tags-decide e f ha hb =
       rw (eq-eqb (a .sender) (b .sender) e, eq-eqb (a .receiver) (b .receiver) f) (tags (a .tag) (b .tag) ha hb)
 
-pub bucket-is : (k : Key) {n : ℕ} {t : ℤ} → n ≡ natural t → t ≡ k .tag
+pub bucket-is : (k : Key) {n : ℕ} {t : ℤ} → n ≡ codeOf t → t ≡ k .tag
     → (k .sender % 64 * 64 + k .receiver % 64 + n % 1024 * 37) % 1024 ≡ bucketOf k
 unfolding bucketOf
 bucket-is k e f = rw (e, f)

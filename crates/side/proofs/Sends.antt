@@ -5,8 +5,6 @@ use mathlib.Core.Bool.{true, false≢true}
 use mathlib.Core.Option.{Option, none}
 use mathlib.Core.List.{List}
 use lib.ListN.{take}
-use lib.IntN.{ℤ}
-use Rattle.paper.specs.Matching as Paper
 use Rattle.paper.specs.Matching.{countIf, isReceiveOf, sendPlace, sendFor}
 use Rattle.paper.specs.declared.Entry.{Entry}
 use Rattle.paper.specs.declared.Role.{Role}
@@ -36,6 +34,6 @@ receives-same es key i Neither h = absurd (false≢true h)
 receives-same es key i (Sends k) h = absurd (false≢true h)
 receives-same es key i (Receives k) h = rw (same-key (keyOf key) (keyOf k) h)
 
-pub receive-send : (l : List ℤ) (es : List Entry) (key : Key) (i : ℕ) → receiveUnder l key i ≡ true
+pub receive-send : (l : List ℕ) (es : List Entry) (key : Key) (i : ℕ) → receiveUnder l key i ≡ true
     → sendBy es i (sideAt l i) ≡ sendPlace (keyOf key) (countIf (isReceiveOf (keyOf key)) (take i es)) es
 receive-send l es key i h = receives-same es key i (sideAt l i) (receive-by l key i {side = sideAt l i} refl refl ∙ h)

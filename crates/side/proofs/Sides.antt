@@ -49,7 +49,7 @@ module _ (key : Paper.Key) (processor : ℕ) where
   receives-for (Role.Receive m) = refl
 
 -- the record at a place, where its side is known
-module _ (l : List ℤ) (key : Key) (i : ℕ) where
+module _ (l : List ℕ) (key : Key) (i : ℕ) where
   pub send-by : {side x : Side} → side ≡ sideAt l i → side ≡ x → sendsBy (keyOf key) x ≡ sendUnder l key i
   unfolding sideAt
   send-by e f = ap (sendsBy (keyOf key)) (sym f ∙ e) ∙ sym (sends-for (keyOf key) (entryFrom l i .body .processor) (entryFrom l i .body .role))

@@ -36,13 +36,12 @@ fn side_for(processor: usize, role: Role) -> Side
 }
 
 // The side of the record at place i of a store.
-pub fn side_at(store: &[i64], i: usize) -> Side
+pub fn side_at(store: &[u32], i: usize) -> Side
     ensures { λ r. ⌜ r ≡ sideAt (now (store .entry)) i ⌝ }
 {
-    let e = store::entry_at(store, i);
-    let body = e.body;
-    let role = body.role;
-    side_for(body.processor, role)
+    let processor = store::processor_at(store, i);
+    let role = store::role_at(store, i);
+    side_for(processor, role)
 }
 
 fn same_key(a: Key, b: Key) -> bool
@@ -60,7 +59,7 @@ fn same_key(a: Key, b: Key) -> bool
 }
 
 // Record i is a send under the key.
-pub fn send_under(store: &[i64], i: usize, key: Key) -> bool
+pub fn send_under(store: &[u32], i: usize, key: Key) -> bool
     ensures { λ r. ⌜ r ≡ sendUnder (now (store .entry)) key i ⌝ }
 {
     let side = side_at(store, i);
@@ -72,7 +71,7 @@ pub fn send_under(store: &[i64], i: usize, key: Key) -> bool
 }
 
 // Record i is a receive under the key.
-pub fn receive_under(store: &[i64], i: usize, key: Key) -> bool
+pub fn receive_under(store: &[u32], i: usize, key: Key) -> bool
     ensures { λ r. ⌜ r ≡ receiveUnder (now (store .entry)) key i ⌝ }
 {
     let side = side_at(store, i);
@@ -87,6 +86,6 @@ pub fn receive_under(store: &[i64], i: usize, key: Key) -> bool
 pub fn bucket_of(key: Key) -> usize
     ensures { λ r. ⌜ Bucket key r ⌝ }
 {
-    let tag = store::count_of(key.tag);
-    (key.sender % 64 * 64 + key.receiver % 64 + tag % 1024 * 37) % 1024
+    let tag = (signed::code(key.tag) % 1024) as usize;
+    (key.sender % 64 * 64 + key.receiver % 64 + tag * 37) % 1024
 }

@@ -3,6 +3,7 @@ ghost use mathlib.Core.Path.{_≡_};
 ghost use lib.Signed.{ltZ};
 ghost use Rattle.paper.specs.Tests.{eqZ};
 ghost use Rattle.signed.specs.Naturals.{sizeOf, naturalOf};
+ghost use Rattle.signed.specs.Codes.{codeOf, decoded};
 
 // A number that is not negative, or outside.
 pub enum Natural {
@@ -43,4 +44,25 @@ pub fn up_to(z: i64, most: usize) -> Natural
         return Natural::Outside;
     }
     Natural::Of(n)
+}
+
+// A signed number as a plain one.
+pub fn code(z: i64) -> u64
+    ensures { λ r. ⌜ r ≡ codeOf z ⌝ }
+{
+    if 0 <= z {
+        return z as u64 * 2;
+    }
+    (-1 - z) as u64 * 2 + 1
+}
+
+// The signed number of a code.
+pub fn from_code(n: u64) -> i64
+    ensures { λ r. ⌜ r ≡ decoded n ⌝ }
+{
+    let half = (n / 2) as i64;
+    if n % 2 == 0 {
+        return half;
+    }
+    -1 - half
 }

@@ -1,65 +1,66 @@
--- What the times of a store's records come to: the answer, and what the lent times hold afterwards.
-use Prim.Native.Nat.{ℕ, _/_, _≤_}
+-- What the times of a store's records come to: the answer, and what the lent places and times hold afterwards.
+use Prim.Native.Nat.{ℕ, _<_, _≤_}
 use mathlib.Core.Path.{_≡_}
 use mathlib.Core.List.{List}
-use mathlib.Core.Bool.{cond, _&&_}
+use mathlib.Core.Bool.{Bool, true, false, _&&_}
 use lib.ListN.{length}
 use lib.IntN.{ℤ}
-use lib.Dec.{leb}
+use lib.Dec.{leb, ltb}
 use Rattle.paper.specs.Clock as paper
 use Rattle.paper.specs.Clock.{settled, impossible}
 use Rattle.paper.specs.Matching.{matchedOf, matchedCount, unreceivedCount, waitsOf}
 use Rattle.paper.specs.declared.Entry.{Entry}
-use Rattle.paper.specs.declared.Stop.{Stop}
 use Rattle.paper.specs.declared.Stop.the-variants.{End, At}
-use Rattle.store.specs.Layout.{entriesIn}
+use Rattle.store.specs.Layout.{tooMany, capacity, entriesIn}
+use Rattle.clock.specs.Promise.{allAre}
 use Rattle.clock.specs.declared.Settled.{Settled}
 use Rattle.clock.specs.declared.Settled.the-variants as Settled
 use Rattle.chains.specs.Places.{placesOf}
-use Rattle.waits.specs.Tables.{originalsOf}
 use Rattle.solve.specs.declared.Solved.{Solved}
 use Rattle.solve.specs.declared.Solved.the-variants.{Times, Refused, Impossible, Misfit}
 
-pub record Outcome : Type 0 where
-  pub answer : Solved
-  pub times : List ℤ
+-- n records, for which there is room, and a place for each in every slice
+unfoldable pub fitting : ℕ → ℕ → List ℕ → Bool
+fitting n room lengths = ltb n tooMany && leb n room && allAre n lengths
 
-abbrev pub solution : Solved → List ℤ → Outcome
-solution answer times = record { answer = answer; times = times }
+-- the times of the entries, with what was counted; the places of the sends in one slice, the times in the other
+pub record Solution (table : List ℕ) (es : List Entry) (matched unreceived rounds : ℕ) (sends : List ℕ) (times : List ℤ) : Type 0 where
+  pub matches : matchedOf es ≡ End
+  pub settles : paper.settle (waitsOf table es) ≡ settled rounds times
+  pub places : sends ≡ placesOf es
+  pub many : matched ≡ matchedCount es
+  pub left : unreceived ≡ unreceivedCount es
 
-unfoldable pub onSettled : List Entry → paper.Settled → Outcome
-onSettled es impossible = solution Impossible (originalsOf es)
-onSettled es (settled rounds times) = solution (Times (matchedCount es) (unreceivedCount es) rounds) times
+unfoldable pub solvedBy : List ℕ → List Entry → Solved → List ℕ → List ℤ → Type 0
+solvedBy table es (Times matched unreceived rounds) sends times = Solution table es matched unreceived rounds sends times
+solvedBy table es (Refused fault line) sends times = matchedOf es ≡ At fault line
+solvedBy table es Impossible sends times = (matchedOf es ≡ End) × (paper.settle (waitsOf table es) ≡ impossible)
+solvedBy table es Misfit sends times = ⊥
 
-unfoldable pub onMatched : List ℕ → List Entry → List ℤ → Stop → Outcome
-onMatched table es lent (At fault line) = solution (Refused fault line) lent
-onMatched table es lent End = onSettled es (paper.settle (waitsOf table es))
-
--- as many of the store's records as times are lent
-unfoldable pub solved : List ℤ → List ℕ → List ℤ → Outcome
-solved store table lent =
-    let es = entriesIn store (length lent) in
-    cond (leb (length lent) 2048 && leb (length lent) (length store / 7)) (onMatched table es lent (matchedOf es))
-    (solution Misfit lent)
+-- an answer where the slices fit, and none where they do not
+pub record SolvedInto (fits : Bool) (table : List ℕ) (es : List Entry) (r : Solved) (sends : List ℕ) (times : List ℤ) : Type 0 where
+  pub answers : fits ≡ true → solvedBy table es r sends times
+  pub misfits : fits ≡ false → r ≡ Misfit
 
 -- ---- for the functions below
 
--- tables for as many records as times are lent, the sends filled in
-pub record Tables (store : List ℤ) (sends : List ℕ) (originals : List ℤ) (before latency : List ℕ) (times spare : List ℤ) : Type 0 where
+-- the engine's answer, where all messages match
+unfoldable pub settledAs : ℕ → ℕ → Settled → Solved
+settledAs matched unreceived (Settled.Rounds rounds) = Times matched unreceived rounds
+settledAs matched unreceived Settled.Impossible = Impossible
+settledAs matched unreceived Settled.Misfit = Misfit
+
+-- slices for as many records as times are lent, the places of the sends filled in
+pub record Tables (store sends before latency : List ℕ) (times spare : List ℤ) : Type 0 where
   pub places : sends ≡ placesOf (entriesIn store (length times))
-  pub all-originals : length originals ≡ length times
+  pub few : length times < tooMany
+  pub room : length times ≤ capacity store
   pub all-before : length before ≡ length times
   pub all-latency : length latency ≡ length times
   pub all-spare : length spare ≡ length times
 
--- times lent for no more records than a call can take, and the sends of as many
-pub record Sent (store : List ℤ) (sends : List ℕ) (times : List ℤ) : Type 0 where
-  pub places : sends ≡ placesOf (entriesIn store (length times))
-  pub few : length times ≤ 2048
-
 -- the engine's answer, with what it leaves in the times, is the paper's
-unfoldable pub settledBy : List ℤ → List ℕ → Settled → List ℤ → Type 0
-settledBy store table (Settled.Rounds k) times = paper.settle (waitsOf table (entriesIn store (length times))) ≡ settled k times
-settledBy store table Settled.Impossible times =
-    (paper.settle (waitsOf table (entriesIn store (length times))) ≡ impossible) × (times ≡ originalsOf (entriesIn store (length times)))
-settledBy store table Settled.Misfit times = ⊥
+unfoldable pub settledBy : List ℕ → List Entry → Settled → List ℤ → Type 0
+settledBy table es (Settled.Rounds k) times = paper.settle (waitsOf table es) ≡ settled k times
+settledBy table es Settled.Impossible times = paper.settle (waitsOf table es) ≡ impossible
+settledBy table es Settled.Misfit times = ⊥

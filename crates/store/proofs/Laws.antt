@@ -1,5 +1,5 @@
--- The laws of the store: what is put is taken out again, and records laid one after the other are read as the records.
-use Prim.Native.Nat.{ℕ, suc, _+_, _*_, _/_, _%_, _<_, _^_}
+-- The laws of the store: records put one after the other are read as the records, and each with where its line starts.
+use Prim.Native.Nat.{ℕ, zero, suc, _+_, _*_, _<_, _≤_, _^_}
 use mathlib.Core.Path.{_≡_, refl}
 use mathlib.Core.List.{List, [], _∷_, _++_, append-assoc, append-nil}
 use native.Mathlib.Omega.{arith}
@@ -7,89 +7,126 @@ use borrow.Author.Tests.{lt-ltb}
 use lib.Dec.{leb·suc-suc}
 use lib.ListN.{length, drop, length-append, length-drop}
 use lib.Seq.{take-at, drop-append-add, drop-drop}
-use lib.IntN.{ℤ}
 use Rattle.paper.specs.Matching.{entryAt}
-use Rattle.paper.specs.declared.Role.{Role}
-use Rattle.paper.specs.declared.Role.the-variants.{Neither, Send, Receive}
 use Rattle.paper.specs.declared.Entry.{Entry}
 use Rattle.store.proofs.Listed.{listed-same, length-listed, listed-at}
-use Rattle.store.specs.Layout.{kindOf, messageIn, numbersOf, natural, roleFrom, messageFrom, entryOf, entryFrom, entriesIn, putAt, laid, Small, AllSmall}
-
--- ---- one record
-
-role-back : (r : Role) → messageIn r .length < 2 ^ 62 → messageIn r .peer < 64
-    → roleFrom (natural (kindOf r)) (record { length = messageIn r .length % 2 ^ 62; tag = messageIn r .tag; peer = messageIn r .peer % 64 % 64 }) ≡ r
-unfolding roleFrom natural kindOf messageIn
-role-back Neither h g = refl
-role-back (Send m) h g =
-    let a : m .length % 2 ^ 62 ≡ m .length = omega arith in let b : m .peer % 64 % 64 ≡ m .peer = omega arith in rw (a, b)
-role-back (Receive m) h g =
-    let a : m .length % 2 ^ 62 ≡ m .length = omega arith in let b : m .peer % 64 % 64 ≡ m .peer = omega arith in rw (a, b)
-
--- a small record is read back from its numbers
-pub read-back : (e : Entry) (more : List ℤ) → Small e → entryOf (numbersOf e ++ more) ≡ e
-unfolding entryOf messageFrom numbersOf natural
-read-back e more s =
-    let a : e .line % 2 ^ 62 ≡ e .line = omega arith in
-    let b : e .body .processor % 64 % 64 ≡ e .body .processor = omega arith in
-    rw (a, b, role-back (e .body .role) (s .length) (s .peer))
+use Rattle.store.proofs.Back.{read-back}
+use Rattle.store.specs.Layout.{width, capacity, numbersOf, entryFrom, startFrom, entriesIn, putAt, laid, stored, Small, AllSmall}
 
 -- ---- records one after the other
 
-pub length-laid : (es : List Entry) → length (laid es) ≡ 7 * length es
-unfolding laid numbersOf
-length-laid [] = refl
-length-laid (e ∷ es) = omega (arith, length-laid es)
+next : (k : ℕ) → width * (k + 1) ≡ width * k + width
+unfolding width
+next k = omega arith
 
-pub laid-snoc : (es : List Entry) (e : Entry) → laid (es ++ (e ∷ [])) ≡ laid es ++ numbersOf e
-unfolding laid
-laid-snoc [] e = append-nil (numbersOf e)
-laid-snoc (d ∷ es) e = rw (laid-snoc es e, append-assoc)
+module _ (start : ℕ → ℕ) where
+  length-laid : (es : List Entry) → length (laid start es) ≡ width * length es
+  unfolding laid numbersOf width
+  length-laid [] = refl
+  length-laid (e ∷ es) = omega (arith, length-laid es)
 
-room-first : (e : Entry) (more : List ℤ) → 0 < length (numbersOf e ++ more) / 7
-unfolding numbersOf
-room-first e more = omega arith
+  laid-snoc : (es : List Entry) (e : Entry) → laid start (es ++ (e ∷ [])) ≡ laid start es ++ numbersOf (start (e .line)) e
+  unfolding laid
+  laid-snoc [] e = append-nil (numbersOf (start (e .line)) e)
+  laid-snoc (d ∷ es) e = rw (laid-snoc es e, append-assoc)
 
-entry-first : (e : Entry) (more : List ℤ) → Small e → entryFrom (numbersOf e ++ more) 0 ≡ e
-unfolding entryFrom
-entry-first e more s = rw (lt-ltb 0 (length (numbersOf e ++ more) / 7) (room-first e more)) (read-back e more s)
+-- ---- the first record, and those after it
 
-entry-later : (e : Entry) (more : List ℤ) (i : ℕ) → entryFrom (numbersOf e ++ more) (suc i) ≡ entryFrom more i
-unfolding entryFrom numbersOf
-entry-later e more i =
-    let a : 7 * suc i ≡ suc (suc (suc (suc (suc (suc (suc (7 * i))))))) = omega arith in
-    let b : suc (suc (suc (suc (suc (suc (suc (length more))))))) / 7 ≡ suc (length more / 7) = omega arith in
-    rw (a, b, leb·suc-suc)
+module _ (start : ℕ) (e : Entry) (more : List ℕ) where
+  room-first : 0 < capacity (numbersOf start e ++ more)
+  unfolding numbersOf capacity width
+  room-first = omega arith
 
--- the records that are laid are the records that are read
-pub read-laid : (es : List Entry) (more : List ℤ) → AllSmall es → entriesIn (laid es ++ more) (length es) ≡ es
-unfolding entriesIn laid AllSmall
-read-laid [] more s = refl
-read-laid (e ∷ es) more s =
-    rw (
-      append-assoc (numbersOf e) (laid es) more,
-      entry-first e (laid es ++ more) (s .0),
-      listed-same (length es) (λ i. entryFrom (numbersOf e ++ (laid es ++ more)) (suc i)) (entryFrom (laid es ++ more)) (λ i l. entry-later e (laid es ++ more) i),
-      read-laid es more (s .1),
-    )
+  entry-first : Small e → entryFrom (numbersOf start e ++ more) 0 ≡ e
+  unfolding entryFrom width
+  entry-first s = rw (lt-ltb 0 (capacity (numbersOf start e ++ more)) room-first) (read-back start e more s)
 
--- the next record put behind the records that are laid
-pub put-laid : (es : List Entry) (e : Entry) (l : List ℤ) → length es < length l / 7
-    → putAt (laid es ++ drop (7 * length es) l) (length es) e ≡ laid (es ++ (e ∷ [])) ++ drop (7 * (length es + 1)) l
-unfolding putAt
-put-laid es e l h =
-    let k = length es in
-    let n : length (laid es) ≡ 7 * k = length-laid es in
-    let all : length (laid es ++ drop (7 * k) l) ≡ length l = simp (length-append, length-drop, n) (omega arith) in
-    let at : 7 * (k + 1) ≡ 7 * k + 7 = omega arith in
-    rw (all, lt-ltb k (length l / 7) h, take-at (laid es) (drop (7 * k) l) (7 * k) n, laid-snoc es e, at, ← drop-drop 7 (7 * k) l, ← drop-append-add (laid es) (drop (7 * k) l) 7, n)
+  start-first : start < 2 ^ 32 → startFrom (numbersOf start e ++ more) 0 ≡ start
+  unfolding startFrom numbersOf width
+  start-first h = rw (lt-ltb 0 (capacity (numbersOf start e ++ more)) room-first) (omega arith)
+
+  capacity-later : capacity (numbersOf start e ++ more) ≡ suc (capacity more)
+  unfolding numbersOf capacity width
+  capacity-later = omega arith
+
+  drop-later : (i : ℕ) → drop (width * suc i) (numbersOf start e ++ more) ≡ drop (width * i) more
+  unfolding numbersOf width
+  drop-later i =
+      let a : width * suc i ≡ suc (suc (suc (suc (suc (suc (suc (suc (suc (suc (width * i)))))))))) = omega arith in
+      rw a
+
+  entry-later : (i : ℕ) → entryFrom (numbersOf start e ++ more) (suc i) ≡ entryFrom more i
+  unfolding entryFrom
+  entry-later i = rw (capacity-later, drop-later i, leb·suc-suc)
+
+  start-later : (i : ℕ) → startFrom (numbersOf start e ++ more) (suc i) ≡ startFrom more i
+  unfolding startFrom
+  start-later i = rw (capacity-later, drop-later i, leb·suc-suc)
+
+-- ---- a store with records in its first places
+
+module _ (start : ℕ → ℕ) where
+  pub stored-none : (l : List ℕ) → stored start [] l ≡ l
+  unfolding stored laid width
+  stored-none l = refl
+
+  module _ (es : List Entry) (l : List ℕ) where
+    pub length-stored : length es ≤ capacity l → length (stored start es l) ≡ length l
+    unfolding stored capacity width
+    length-stored h = simp (length-append, length-drop, length-laid start es) (omega arith)
+
+    pub capacity-stored : length es ≤ capacity l → capacity (stored start es l) ≡ capacity l
+    unfolding capacity
+    capacity-stored h = rw (length-stored h)
+
+    -- the next record put behind those that stand there
+    pub put-stored : (e : Entry) → length es < capacity l
+        → putAt (stored start es l) (length es) (start (e .line)) e ≡ stored start (es ++ (e ∷ [])) l
+    unfolding putAt stored
+    put-stored e h =
+        let k = length es in
+        let n : length (laid start es) ≡ width * k = length-laid start es in
+        let at : width * (k + 1) ≡ width * k + width = next k in
+        rw (capacity-stored (omega arith), lt-ltb k (capacity l) h, take-at (laid start es) (drop (width * k) l) (width * k) n, laid-snoc start es e, length-append, at, ← drop-drop width (width * k) l, ← drop-append-add (laid start es) (drop (width * k) l) width, n, append-assoc)
+
+  -- the records that are stored are the records that are read
+  read-laid : (es : List Entry) (more : List ℕ) → AllSmall es → entriesIn (laid start es ++ more) (length es) ≡ es
+  unfolding entriesIn laid AllSmall
+  read-laid [] more s = refl
+  read-laid (e ∷ es) more s =
+      let from = start (e .line) in
+      rw (
+        append-assoc (numbersOf from e) (laid start es) more,
+        entry-first from e (laid start es ++ more) (s .0),
+        listed-same (length es) (λ i. entryFrom (numbersOf from e ++ (laid start es ++ more)) (suc i)) (entryFrom (laid start es ++ more)) (λ i l. entry-later from e (laid start es ++ more) i),
+        read-laid es more (s .1),
+      )
+
+  pub entries-stored : (es : List Entry) (l : List ℕ) → AllSmall es → entriesIn (stored start es l) (length es) ≡ es
+  unfolding stored
+  entries-stored es l s = read-laid es (drop (width * length es) l) s
+
+  -- and with each where its line starts
+  start-laid : (es : List Entry) (more : List ℕ) (i : ℕ) → i < length es → start (entryAt es i .line) < 2 ^ 32
+      → startFrom (laid start es ++ more) i ≡ start (entryAt es i .line)
+  unfolding laid entryAt
+  start-laid [] more i h low = absurd (omega arith)
+  start-laid (e ∷ es) more zero h low =
+      rw (append-assoc (numbersOf (start (e .line)) e) (laid start es) more) (start-first (start (e .line)) e (laid start es ++ more) low)
+  start-laid (e ∷ es) more (suc i) h low =
+      rw (append-assoc (numbersOf (start (e .line)) e) (laid start es) more, start-later (start (e .line)) e (laid start es ++ more) i) (start-laid es more i (omega arith) low)
+
+  pub start-stored : (es : List Entry) (l : List ℕ) (i : ℕ) → i < length es → start (entryAt es i .line) < 2 ^ 32
+      → startFrom (stored start es l) i ≡ start (entryAt es i .line)
+  unfolding stored
+  start-stored es l i h low = start-laid es (drop (width * length es) l) i h low
 
 -- ---- the entries of a store, place by place
 
-pub length-entries : (l : List ℤ) (n : ℕ) → length (entriesIn l n) ≡ n
+pub length-entries : (l : List ℕ) (n : ℕ) → length (entriesIn l n) ≡ n
 unfolding entriesIn
 length-entries l n = length-listed n (entryFrom l)
 
-pub entry-in : (l : List ℤ) (n i : ℕ) → i < n → entryAt (entriesIn l n) i ≡ entryFrom l i
+pub entry-in : (l : List ℕ) (n i : ℕ) → i < n → entryAt (entriesIn l n) i ≡ entryFrom l i
 unfolding entriesIn entryAt
 entry-in l n i h = listed-at n (entryFrom l) i _ h

@@ -1,6 +1,9 @@
--- The laws of the store are in `Laws`, those of `listed` in `Listed`; `Counts` and `Places` are for the proofs of the functions.
+-- What other crates stand on is in `Laws`, and in `Listed` the laws of paper's `listed`. `Back` is one record written and read;
+-- `Places` is for the functions that read, `Made` for those that write.
 pub mod Listed
-pub mod Counts
 pub mod Places
+pub mod Made
+pub mod Back
 pub mod Laws
 pub mod Outcome
+pub mod Peers

@@ -1,91 +1,114 @@
--- Which number stands where: what the functions that write and read the seven numbers come to, with the numbers still as the
--- code has them (a signed number that went through a local shows as its bits).
+-- Which number stands where: the record at a place by its numbers, one by one.
 use Prim.Native.Nat.{ℕ, _+_, _*_, _/_, _%_, _<_, _≤_, _^_}
-use mathlib.Core.Path.{_≡_}
-use mathlib.Core.List.{List, [], _∷_}
+use mathlib.Core.Path.{_≡_, refl, _∙_}
+use mathlib.Core.List.{List}
+use mathlib.Core.Bool.{Bool, true, false}
 use native.Mathlib.Omega.{arith}
-use borrow.Author.Tests.{lt-ltb, le-ltb}
-use lib.ListN.{length, getD, drop}
-use lib.Seq.{getD-drop, paste}
-use lib.IntN.{ℤ, pos}
+use borrow.Author.Tests.{lt-ltb, le-ltb, eq-eqb, ne-eqb}
+use lib.Dec.{ltb}
+use lib.IntN.{ℤ}
+use lib.ListN.{getD}
+use lib.Seq.{getD-drop}
 use mir.Syntax.{w64}
 use mir.Val.{toZ, ofZ}
-use mir.Facts.{toZ-pos}
+use Rattle.paper.specs.declared.Data.{Data}
+use Rattle.paper.specs.declared.Data.the-variants.{Malformed, Three, Others}
 use Rattle.paper.specs.declared.Message.{Message}
 use Rattle.paper.specs.declared.Role.{Role}
-use Rattle.paper.specs.declared.Record.{Record}
+use Rattle.paper.specs.declared.Role.the-variants.{Neither, Send, Receive}
 use Rattle.paper.specs.declared.Entry.{Entry}
-use Rattle.paper.specs.declared.Role.the-variants.{Neither}
-use Rattle.store.specs.Layout.{kindOf, messageIn, numbersOf, natural, roleFrom, messageFrom, entryOf, entryFrom, putAt}
+use Rattle.signed.specs.Codes.{decoded}
+use Rattle.store.specs.Layout.{width, capacity, roleFrom, valuesFrom, messageFrom, entryOf, entryFrom, On}
+use Rattle.store.specs.Parts.{partAt, messageAt}
 
--- a count below 2 ^ 63 cast to a signed number
-count : (n m : ℕ) → n < m → m ≤ 2 ^ 63 → toZ w64 n ≡ pos n
-count n m h g = toZ-pos w64 {n = n} (omega arith)
+-- a signed number that went through a local shows as its bits
+pub through : {t u : ℤ} → t ≡ u → toZ w64 (ofZ w64 t) ≡ t → toZ w64 (ofZ w64 t) ≡ u
+through e h = h ∙ e
 
-pub numbers-are : (line : ℕ) (b : Record) (k : ℤ) (m : Message)
-    → toZ w64 (ofZ w64 (b .time)) ≡ b .time → k ≡ kindOf (b .role) → m ≡ messageIn (b .role)
-    → toZ w64 (ofZ w64 k) ≡ k → toZ w64 (ofZ w64 (m .tag)) ≡ m .tag
-    → _≡_ {A = List ℤ}
-    (toZ w64 (ofZ w64 (b .time))
-    ∷ toZ w64 (line % 2 ^ 62)
-    ∷ toZ w64 (b .processor % 64)
-    ∷ toZ w64 (ofZ w64 k)
-    ∷ toZ w64 (m .length % 2 ^ 62)
-    ∷ toZ w64 (ofZ w64 (m .tag))
-    ∷ toZ w64 (m .peer % 64)
-    ∷ [])
-    (numbersOf (record { line = line; body = b }))
-unfolding numbersOf
-numbers-are line b k m t ke me kt mt =
-    rw (
-      t,
-      kt,
-      mt,
-      count (line % 2 ^ 62) (2 ^ 62) (omega arith) (omega arith),
-      count (b .processor % 64) 64 (omega arith) (omega arith),
-      count (m .length % 2 ^ 62) (2 ^ 62) (omega arith) (omega arith),
-      count (m .peer % 64) 64 (omega arith) (omega arith),
-      ke,
-      me,
-    )
+module _ (l : List ℕ) (i : ℕ) where
+  -- ---- a number
 
-module _ (l : List ℤ) (at : ℕ) where
-  pub message-at : (n p : ℕ) (t : ℤ) → n ≡ natural (getD l (at + 4) (pos 0)) → p ≡ natural (getD l (at + 6) (pos 0))
-      → t ≡ getD l (at + 5) (pos 0)
-      → _≡_ {A = Message} (record { length = n; tag = t; peer = p % 64 }) (messageFrom (drop at l))
-  unfolding messageFrom
-  message-at n p t ne pe te = rw (getD-drop at l 4 (pos 0), getD-drop at l 5 (pos 0), getD-drop at l 6 (pos 0), ne, pe, te)
+  pub no-part : (k : ℕ) → capacity l ≤ i → 0 ≡ partAt l i k
+  unfolding partAt
+  no-part k h = rw (le-ltb i (capacity l) h)
 
-  pub entry-at : (line p k : ℕ) (t : ℤ) (m : Message) (r : Role) → line ≡ natural (getD l (at + 1) (pos 0))
-      → p ≡ natural (getD l (at + 2) (pos 0)) → k ≡ natural (getD l (at + 3) (pos 0)) → m ≡ messageFrom (drop at l)
-      → r ≡ roleFrom k m
-      → t ≡ getD l at (pos 0)
-      → _≡_ {A = Entry} (record { line = line; body = record { time = t; processor = p % 64; role = r } }) (entryOf (drop at l))
-  unfolding entryOf
-  entry-at line p k t m r le pe ke me re te =
-      let z : at + 0 ≡ at = omega arith in
-      rw (getD-drop at l 0 (pos 0), getD-drop at l 1 (pos 0), getD-drop at l 2 (pos 0), getD-drop at l 3 (pos 0), z, le, pe, te, re, ke, me)
+  pub a-part : (k : ℕ) → i < capacity l → getD l (i * width + k) 0 ≡ partAt l i k
+  unfolding partAt width
+  a-part k h =
+      let q : i * width ≡ width * i = omega arith in
+      rw (lt-ltb i (capacity l) h, getD-drop (width * i) l k 0, q)
 
-module _ (l : List ℤ) (i : ℕ) where
-  pub no-entry : length l / 7 ≤ i
-      → _≡_ {A = Entry} (record { line = 0; body = record { time = pos 0; processor = 0; role = Neither } }) (entryFrom l i)
-  unfolding entryFrom
-  no-entry h = rw (le-ltb i (length l / 7) h)
+  -- ---- the record
 
-  pub an-entry : (e : Entry) → i < length l / 7 → e ≡ entryOf (drop (i * 7) l) → e ≡ entryFrom l i
-  unfolding entryFrom
-  an-entry e h p =
-      let q : i * 7 ≡ 7 * i = omega arith in
-      rw (lt-ltb i (length l / 7) h, ← q) p
+  abbrev byParts : Entry
+  byParts =
+      record {
+        line = partAt l i 2;
+        body = record {
+          time = decoded (partAt l i 0 + 2 ^ 32 * partAt l i 1);
+          processor = partAt l i 4 % 64;
+          kind = decoded (partAt l i 5);
+          event = decoded (partAt l i 6);
+          values = valuesFrom (partAt l i 4 / 256) (decoded (partAt l i 7)) (decoded (partAt l i 8)) (decoded (partAt l i 9));
+          role = roleFrom (partAt l i 4 / 64 % 4) (messageAt l i);
+        };
+      }
 
-  pub no-room : (e : Entry) → length l / 7 ≤ i → l ≡ putAt l i e
-  unfolding putAt
-  no-room e h = rw (le-ltb i (length l / 7) h)
+  pub by-parts : entryFrom l i ≡ byParts
+  unfolding entryFrom entryOf messageFrom messageAt partAt valuesFrom roleFrom decoded
+  by-parts = go (ltb i (capacity l)) refl
+    where
+      go : (t : Bool) → ltb i (capacity l) ≡ t → entryFrom l i ≡ byParts
+      go true e = rw e
+      go false e = rw e
 
-  -- what the loop that copies the numbers leaves
-  pub is-put : (e : Entry) (numbers r : List ℤ) (k : ℕ) → i < length l / 7 → numbers ≡ numbersOf e → k ≡ 7
-      → r ≡ paste l (i * 7) numbers k → r ≡ putAt l i e
-  unfolding putAt numbersOf
-  is-put e numbers r k h n k7 p =
-      let q : i * 7 ≡ 7 * i = omega arith in
-      rw (lt-ltb i (length l / 7) h, ← q, p, n, k7)
+  -- ---- its parts, from the numbers that the code has read
+
+  pub line-is : {p : ℕ} → p ≡ partAt l i 2 → p ≡ entryFrom l i .line
+  line-is e = rw (by-parts, e)
+
+  pub time-is : {p q : ℕ} {t : ℤ} → p ≡ partAt l i 0 → q ≡ partAt l i 1 → t ≡ decoded (p + 2 ^ 32 * q) → t ≡ entryFrom l i .body .time
+  time-is e f g = rw (by-parts, ← e, ← f, g)
+
+  pub processor-is : {p : ℕ} → p ≡ partAt l i 4 → On (entryFrom l i) (p % 64)
+  processor-is {p} e = record { is = rw (by-parts, e); low = omega arith }
+
+  pub message-is : {p q : ℕ} {t : ℤ} → p ≡ partAt l i 7 → t ≡ decoded (partAt l i 8) → q ≡ partAt l i 9
+      → _≡_ {A = Message} (record { length = p / 2; tag = t; peer = q / 2 % 64 }) (messageAt l i)
+  unfolding messageAt
+  message-is e f g = rw (e, f, g)
+
+  module _ {p : ℕ} (mixed : p ≡ partAt l i 4) where
+    pub sends : {m : Message} → m ≡ messageAt l i → p / 64 % 4 ≡ 1 → Send m ≡ entryFrom l i .body .role
+    unfolding roleFrom
+    sends e t = rw (by-parts, ← mixed, ← e, eq-eqb _ 1 t)
+
+    pub receives : {m : Message} → m ≡ messageAt l i → p / 64 % 4 ≡ 2 → Receive m ≡ entryFrom l i .body .role
+    unfolding roleFrom
+    receives e t = rw (by-parts, ← mixed, ← e, t)
+
+    pub neither : (p / 64 % 4 ≡ 1 → ⊥) → (p / 64 % 4 ≡ 2 → ⊥) → Neither ≡ entryFrom l i .body .role
+    unfolding roleFrom
+    neither t u = rw (by-parts, ← mixed, ne-eqb _ 1 t, ne-eqb _ 2 u)
+
+    pub three : {a b c : ℤ} → a ≡ decoded (partAt l i 7) → b ≡ decoded (partAt l i 8) → c ≡ decoded (partAt l i 9) → p / 256 ≡ 1
+        → Three a b c ≡ entryFrom l i .body .values
+    unfolding valuesFrom
+    three e f g t = rw (by-parts, ← mixed, t, e, f, g)
+
+    pub malformed : p / 256 ≡ 2 → Malformed ≡ entryFrom l i .body .values
+    unfolding valuesFrom
+    malformed t = rw (by-parts, ← mixed, t)
+
+    pub others : (p / 256 ≡ 1 → ⊥) → (p / 256 ≡ 2 → ⊥) → Others ≡ entryFrom l i .body .values
+    unfolding valuesFrom
+    others t u = rw (by-parts, ← mixed, ne-eqb _ 1 t, ne-eqb _ 2 u)
+
+  pub entry-is : {t : ℤ} {line processor : ℕ} {kind event : ℤ} {values : Data} {role : Role} → line ≡ entryFrom l i .line
+      → t ≡ entryFrom l i .body .time → On (entryFrom l i) processor → kind ≡ decoded (partAt l i 5) → event ≡ decoded (partAt l i 6)
+      → values ≡ entryFrom l i .body .values
+      → role ≡ entryFrom l i .body .role
+      → _≡_ {A = Entry}
+      (record { line = line; body = record { time = t; processor = processor; kind = kind; event = event; values = values; role = role } })
+      (entryFrom l i)
+  entry-is le te on ke ee ve re = rw (le, te, on .is, ke, ee, ve, re, by-parts)

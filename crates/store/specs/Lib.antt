@@ -1,2 +1,3 @@
 -- The definitions that the contracts of this crate cite.
 pub mod Layout
+pub mod Parts

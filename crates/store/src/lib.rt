@@ -1,68 +1,43 @@
-// The records' store: the listed records wait in one lent slice of numbers, seven to a record. Only the functions of this crate
-// know which number stands where; specs/Layout.antt says it.
+// The records' store: the listed records wait in one lent slice of numbers. Only this crate knows how many numbers a record takes and
+// which of them stands where; specs/Layout.antt says it.
+mod numbers;
+mod parts;
+
 ghost use mathlib.Core.Path.{_≡_};
-ghost use Prim.Native.Nat.{ℕ, _+_, _*_, _/_, _%_, _<_, _≤_, _^_};
-ghost use mathlib.Core.List.{_++_};
-ghost use lib.ListN.{length, take, drop, getD};
-ghost use lib.IntN.{ℤ, pos};
-ghost use Rattle.store.specs.Layout.{kindOf, messageIn, numbersOf, natural, roleFrom, messageFrom, entryOf, entryFrom, putAt};
+ghost use Rattle.store.specs.Layout as layout;
+ghost use Rattle.store.specs.Layout.{entryFrom, startFrom, putAt, On};
+use paper::Data;
 use paper::Entry;
-use paper::Message;
 use paper::Record;
 use paper::Role;
+use parts::WIDTH;
 
-pub const WIDTH: usize = 7;
+// A record's place is kept in 32 bits, and so is the number of the records, which stands for no place.
+pub const TOO_MANY: usize = 4_294_967_296;
 
-fn kind_of(role: Role) -> i64
-    ensures { λ r. ⌜ r ≡ kindOf role ⌝ }
+// How many records there is room for.
+pub fn capacity(store: &[u32]) -> usize
+    ensures { λ r. ⌜ r ≡ layout.capacity (now (store .entry)) ⌝ }
 {
-    match role {
-        Role::Neither => 0,
-        Role::Send(_) => 1,
-        Role::Receive(_) => 2,
-    }
+    store.len() / WIDTH
 }
 
-fn message_in(role: Role) -> Message
-    ensures { λ r. ⌜ r ≡ messageIn role ⌝ }
+// Room for 2,048 records.
+pub fn empty() -> [u32; 20480]
+    ensures { λ r. ⌜ layout.capacity r ≡ 2048 ⌝ }
 {
-    match role {
-        Role::Neither => Message {
-            length: 0,
-            tag: 0,
-            peer: 0,
-        },
-        Role::Send(m) => m,
-        Role::Receive(m) => m,
-    }
+    [0; 20480]
 }
 
-fn numbers_of(line: usize, body: Record) -> [i64; 7]
-    ensures { λ r. ⌜ r ≡ numbersOf (record { line = line; body = body }) ⌝ }
-{
-    let role = body.role;
-    let kind = kind_of(role);
-    let m = message_in(role);
-    [
-        body.time,
-        (line % 4611686018427387904) as i64,
-        (body.processor % 64) as i64,
-        kind,
-        (m.length % 4611686018427387904) as i64,
-        m.tag,
-        (m.peer % 64) as i64,
-    ]
-}
-
-// Puts a record into place i, where there is room for it.
-pub fn put(store: &mut [i64], i: usize, line: usize, body: Record)
-    ensures { λ r. ⌜ now (store .exit) ≡ putAt (now (store .entry)) i (record { line = line; body = body }) ⌝ }
+// Puts a record, whose line starts at a place of the trace, into place i, where there is room for it.
+pub fn put(store: &mut [u32], i: usize, line: usize, start: usize, body: Record)
+    ensures { λ r. ⌜ now (store .exit) ≡ putAt (now (store .entry)) i start (record { line = line; body = body }) ⌝ }
 {
     if store.len() / WIDTH <= i {
         return;
     }
     let at = i * WIDTH;
-    let numbers = numbers_of(line, body);
+    let numbers = numbers::numbers_of(line, start, body);
     let mut k: usize = 0;
     while k < WIDTH {
         store[at + k] = numbers[k];
@@ -70,71 +45,89 @@ pub fn put(store: &mut [i64], i: usize, line: usize, body: Record)
     }
 }
 
-// A number as a count: what is negative counts for nothing.
-pub fn count_of(z: i64) -> usize
-    ensures { λ r. ⌜ r ≡ natural z ⌝ }
+// ---- the record at place i, part by part
+
+pub fn time_at(store: &[u32], i: usize) -> i64
+    ensures { λ r. ⌜ r ≡ entryFrom (now (store .entry)) i .body .time ⌝ }
 {
-    if z < 0 { 0 } else { z as usize }
+    let low = parts::part(store, i, 0);
+    let high = parts::part(store, i, 1);
+    signed::from_code(low as u64 + 4294967296 * (high as u64))
 }
 
-fn count_at(store: &[i64], at: usize) -> usize
-    requires { ⌜ at < length (now store) ⌝ }
-    ensures { λ r. ⌜ r ≡ natural (getD (now (store .entry)) at (pos 0)) ⌝ }
+pub fn processor_at(store: &[u32], i: usize) -> usize
+    ensures { λ r. ⌜ On (entryFrom (now (store .entry)) i) r ⌝ }
 {
-    let z = store[at];
-    count_of(z)
+    let mixed = parts::part(store, i, 4);
+    (mixed % 64) as usize
 }
 
-fn role_from(kind: usize, m: Message) -> Role
-    ensures { λ r. ⌜ r ≡ roleFrom kind m ⌝ }
+pub fn role_at(store: &[u32], i: usize) -> Role
+    ensures { λ r. ⌜ r ≡ entryFrom (now (store .entry)) i .body .role ⌝ }
 {
-    if kind == 1 {
+    let mixed = parts::part(store, i, 4);
+    let among = mixed / 64 % 4;
+    if among == 1 {
+        let m = parts::message(store, i);
         return Role::Send(m);
     }
-    if kind == 2 {
+    if among == 2 {
+        let m = parts::message(store, i);
         return Role::Receive(m);
     }
     Role::Neither
 }
 
-fn message_at(store: &[i64], at: usize) -> Message
-    requires { ⌜ at + 7 ≤ length (now store) ⌝ }
-    ensures { λ r. ⌜ r ≡ messageFrom (drop at (now (store .entry))) ⌝ }
+fn values_at(store: &[u32], i: usize) -> Data
+    ensures { λ r. ⌜ r ≡ entryFrom (now (store .entry)) i .body .values ⌝ }
 {
-    let length = count_at(store, at + 4);
-    let peer = count_at(store, at + 6);
-    Message {
-        length: length as u64,
-        tag: store[at + 5],
-        peer: peer % 64,
+    let mixed = parts::part(store, i, 4);
+    let form = mixed / 256;
+    if form == 1 {
+        let a = parts::whole(store, i, 7);
+        let b = parts::whole(store, i, 8);
+        let c = parts::whole(store, i, 9);
+        return Data::Three(a, b, c);
     }
+    if form == 2 {
+        return Data::Malformed;
+    }
+    Data::Others
 }
 
-// The record at place i.
-pub fn entry_at(store: &[i64], i: usize) -> Entry
+pub fn line_at(store: &[u32], i: usize) -> usize
+    ensures { λ r. ⌜ r ≡ entryFrom (now (store .entry)) i .line ⌝ }
+{
+    let line = parts::part(store, i, 2);
+    line as usize
+}
+
+pub fn start_at(store: &[u32], i: usize) -> usize
+    ensures { λ r. ⌜ r ≡ startFrom (now (store .entry)) i ⌝ }
+{
+    let start = parts::part(store, i, 3);
+    start as usize
+}
+
+// The whole record.
+pub fn entry_at(store: &[u32], i: usize) -> Entry
     ensures { λ r. ⌜ r ≡ entryFrom (now (store .entry)) i ⌝ }
 {
-    if store.len() / WIDTH <= i {
-        return Entry {
-            line: 0,
-            body: Record {
-                time: 0,
-                processor: 0,
-                role: Role::Neither,
-            },
-        };
-    }
-    let at = i * WIDTH;
-    let line = count_at(store, at + 1);
-    let processor = count_at(store, at + 2);
-    let kind = count_at(store, at + 3);
-    let m = message_at(store, at);
-    let role = role_from(kind, m);
+    let line = line_at(store, i);
+    let time = time_at(store, i);
+    let processor = processor_at(store, i);
+    let kind = parts::whole(store, i, 5);
+    let event = parts::whole(store, i, 6);
+    let values = values_at(store, i);
+    let role = role_at(store, i);
     Entry {
         line,
         body: Record {
-            time: store[at],
-            processor: processor % 64,
+            time,
+            processor,
+            kind,
+            event,
+            values,
             role,
         },
     }

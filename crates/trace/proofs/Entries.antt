@@ -1,11 +1,11 @@
 -- The entries that a reading gives: as many as it lists, no more than there is room for, and each held whole by the store.
-use Prim.Native.Nat.{ℕ, zero, suc, _+_, _≤_, _<_, _^_}
-use mathlib.Core.Path.{_≡_, refl, sym, ap, _∙_}
-use mathlib.Core.List.{List, [], _∷_, _++_}
+use Prim.Native.Nat.{ℕ, suc, _+_, _≤_, _<_, _^_}
+use mathlib.Core.Path.{_≡_, refl, _∙_}
+use mathlib.Core.List.{List, [], _∷_}
 use mathlib.Core.Bool.{Bool, true, false, cond}
 use native.Mathlib.Omega.{arith}
 use lib.ListN.{length, getD}
-use lib.IntN.{ℤ, pos}
+use lib.IntN.{pos}
 use lib.Signed.{ltZ}
 use lib.Dec.{leb, eqb}
 use borrow.Author.Tests.{leb-false}
@@ -14,15 +14,12 @@ use Rattle.paper.specs.Reading.{Lines, done, unended, ended, before, linesOf, S
 use Rattle.paper.specs.declared.Choice.{Choice}
 use Rattle.paper.specs.declared.Fault.the-variants as Fault
 use Rattle.paper.specs.declared.Record.{Record}
-use Rattle.paper.specs.declared.Entry.{Entry}
-use Rattle.paper.specs.declared.Role.{Role}
-use Rattle.paper.specs.declared.Role.the-variants as Role
 use Rattle.paper.specs.declared.Line.{Line}
 use Rattle.paper.specs.declared.Line.the-variants.{Refused, Passed, Listed}
 use Rattle.reading.specs.Joined.{lineCount}
-use Rattle.reading.specs.Tidy.{TidyRole, TidyRecord, TidyLine}
+use Rattle.reading.specs.Tidy.{TidyRecord}
 use Rattle.reading.proofs.Tidy.{tidy-line}
-use Rattle.store.specs.Layout.{messageIn, Small, AllSmall}
+use Rattle.store.specs.Layout.{AllSmall}
 
 -- a checked line is what it was, or refused
 checked-listed : (most : ℕ) (st : State) (x : Line) (r : Record) → checked most st x ≡ Listed r → (x ≡ Listed r) × (st .listed < most)
@@ -88,21 +85,13 @@ listed-few choice most s = rw (← listed-many choice most s) (counted choice mo
 
 -- ---- held whole
 
-small-role : (role : Role) → TidyRole role → (messageIn role .length < 2 ^ 62) × (messageIn role .peer < 64)
-unfolding messageIn
-small-role Role.Neither t = (omega arith, omega arith)
-small-role (Role.Send m) t = (omega (arith, t .length), t .peer)
-small-role (Role.Receive m) t = (omega (arith, t .length), t .peer)
-
-small : (choice : Choice) (most : ℕ) (x : Lines) (n : ℕ) (st : State) → n + lineCount x ≤ 2 ^ 62 → AllSmall (readFrom choice most x n st .entries)
+small : (choice : Choice) (most : ℕ) (x : Lines) (n : ℕ) (st : State) → n + lineCount x ≤ 2 ^ 32 → AllSmall (readFrom choice most x n st .entries)
 unfolding AllSmall
 small choice most =
-    by-lines choice most (λ n st k r. n + k ≤ 2 ^ 62 → AllSmall (r .entries))
+    by-lines choice most (λ n st k r. n + k ≤ 2 ^ 32 → AllSmall (r .entries))
     (λ n st k r e s h. rw e tt)
     (λ n st k r h m. h (omega arith))
-    (λ n st k r b t l h m.
-    let q = small-role (b .role) (t .role) in
-    (record { line = omega arith; processor = t .processor; length = q .0; peer = q .1 }, h (omega arith)))
+    (λ n st k r b t l h m. (record { line = omega arith; tidy = t }, h (omega arith)))
 
 lines-in : (s : List ℕ) → lineCount (linesOf s) ≤ length s
 unfolding linesOf before lineCount
@@ -115,6 +104,6 @@ lines-in (b ∷ s) = go (eqb b 10) (linesOf s) (lines-in s)
     go false (unended l) h = omega arith
     go false (ended l x) h = omega arith
 
-pub entries-small : (choice : Choice) (most : ℕ) (s : List ℕ) → length s < 2 ^ 62 → AllSmall (readOf choice most s .entries)
+pub entries-small : (choice : Choice) (most : ℕ) (s : List ℕ) → length s < 2 ^ 32 → AllSmall (readOf choice most s .entries)
 unfolding readOf
 entries-small choice most s h = small choice most (linesOf s) 1 start (omega (arith, lines-in s))

@@ -1,11 +1,11 @@
 -- The loop over the lines: what holds at its head, the ways out, and a line listed or passed over.
-use Prim.Native.Nat.{ℕ, _+_, _-_, _*_, _/_, _≤_, _<_}
+use Prim.Native.Nat.{ℕ, suc, _+_, _-_, _≤_, _<_}
 use mathlib.Core.Path.{_≡_, refl, sym, ap, _∙_}
 use mathlib.Core.List.{List, [], _∷_, _++_, append-nil}
 use mathlib.Core.Bool.{Bool, true, false}
 use native.Mathlib.Omega.{arith}
-use lib.ListN.{length, take, drop, getD, set, length-append, length-set, drop-of-length-le}
-use lib.Seq.{append-snoc}
+use lib.ListN.{length, take, drop, getD, set, length-append, length-set, length-drop, drop-of-length-le}
+use lib.Seq.{append-snoc, length-take-le}
 use lib.IntN.{ℤ, pos}
 use lib.Signed.{ltZ}
 use borrow.Author.Tests.{le-leb, lt-leb}
@@ -22,19 +22,20 @@ use Rattle.paper.specs.declared.Line.the-variants.{Refused, Passed, Listed}
 use Rattle.paper.specs.declared.Stop.{Stop}
 use Rattle.paper.specs.declared.Stop.the-variants.{End, At}
 use Rattle.reading.specs.Joined.{behind}
+use Rattle.reading.specs.Starts.{bytesBefore, startOf}
 use Rattle.reading.proofs.Found.{found-at, unended-here, ended-here}
 use Rattle.reading.proofs.Tidy.{tidy-record}
-use Rattle.store.specs.Layout.{laid, putAt}
-use Rattle.store.proofs.Laws.{put-laid}
-use Rattle.trace.specs.Read.{ReadInto, answerOf, storeAfter}
+use Rattle.store.specs.Layout.{capacity, stored, putAt}
+use Rattle.store.proofs.Laws.{stored-none, put-stored}
+use Rattle.trace.specs.Read.{ReadInto, answerOf}
 
 -- the state by its parts
 abbrev pub state : List ℤ → ℕ → ℕ → State
 state last listed passed = record { last = last; listed = listed; passed = passed }
 
 -- At the loop's head: the records put so far, and what is left to read gives with them the whole reading.
-pub record Going (choice : Choice) (s : List ℕ) (store₀ : List ℤ) (most : ℕ) (store last : List ℤ) (listed passed at n : ℕ) : Type 0 where
-  pub room : most ≡ length store₀ / 7
+pub record Going (choice : Choice) (s store₀ : List ℕ) (most : ℕ) (store : List ℕ) (last : List ℤ) (listed passed at n : ℕ) : Type 0 where
+  pub room : most ≡ capacity store₀
   pub long : length store ≡ length store₀
   pub wide : length last ≡ 64
   pub inside : at ≤ length s
@@ -42,12 +43,13 @@ pub record Going (choice : Choice) (s : List ℕ) (store₀ : List ℤ) (most : 
   pub counts : listed + passed ≤ at
   pub put : List Entry
   pub many : length put ≡ listed
-  pub holds : store ≡ laid put ++ drop (7 * listed) store₀
+  pub holds : store ≡ stored (startOf s) put store₀
+  pub starts : (k : ℕ) → startOf s (n + k) ≡ at + bytesBefore k (linesOf (drop at s))
   pub reads : behind put (readFrom choice most (linesOf (drop at s)) n (state last listed passed)) ≡ readOf choice most s
 
-pub going-start : (choice : Choice) (s : List ℕ) (store₀ : List ℤ) (most : ℕ) → most ≡ length store₀ / 7
+pub going-start : (choice : Choice) (s store₀ : List ℕ) (most : ℕ) → most ≡ capacity store₀
     → Going choice s store₀ most store₀ (start .last) 0 0 0 1
-unfolding start readOf laid
+unfolding start readOf startOf
 going-start choice s store₀ most e =
     record {
       room = e;
@@ -58,22 +60,31 @@ going-start choice s store₀ most e =
       counts = omega arith;
       put = [];
       many = refl;
-      holds = refl;
+      holds = sym (stored-none (startOf s) store₀);
+      starts = λ k. let from : 1 + k - 1 ≡ k = omega arith in let none : 0 + bytesBefore k (linesOf s) ≡ bytesBefore k (linesOf s) = omega arith in rw (from, none);
       reads = refl;
     }
 
-module _ {choice : Choice} {s : List ℕ} {store₀ : List ℤ} {most : ℕ} {store last : List ℤ} {listed passed at n : ℕ}
+module _ {choice : Choice} {s store₀ : List ℕ} {most : ℕ} {store : List ℕ} {last : List ℤ} {listed passed at n : ℕ}
     (going : Going choice s store₀ most store last listed passed at n) where
+  -- line n starts here
+  starts-here : startOf s n ≡ at
+  unfolding bytesBefore
+  starts-here =
+      let step : n ≡ n + 0 = omega arith in
+      let none : at + 0 ≡ at = omega arith in
+      ap (startOf s) step ∙ going .starts 0 ∙ none
+
   -- where the reading from here on ends at once
   stopped : (x : Stop) → readFrom choice most (linesOf (drop at s)) n (state last listed passed) ≡ record { stop = x; entries = []; state = state last listed passed }
       → ReadInto choice s store₀ (record { stop = x; listed = listed; passed = passed }) store
-  unfolding answerOf storeAfter
+  unfolding answerOf
   stopped x e =
-      let whole : behind (going .put) (record { stop = x; entries = []; state = state last listed passed }) ≡ readOf choice (length store₀ / 7) s =
+      let whole : behind (going .put) (record { stop = x; entries = []; state = state last listed passed }) ≡ readOf choice (capacity store₀) s =
       rw (going .room) at (sym (ap (behind (going .put)) e) ∙ going .reads) in
       record {
         answer = rw (← whole);
-        holds = rw (← whole) (rw (append-nil, going .many) (going .holds));
+        holds = rw (← whole) (rw append-nil (going .holds));
       }
 
   pub at-end : length s ≤ at → ReadInto choice s store₀ (record { stop = End; listed = listed; passed = passed }) store
@@ -97,6 +108,14 @@ module _ {choice : Choice} {s : List ℕ} {store₀ : List ℤ} {most : ℕ} {st
           (λ st. readFrom choice most (linesOf (drop (end + 1) s)) (n + 1) st)
       unfolding readFrom
       onward = rw (ended-here s at end found is-line within)
+
+      -- where the lines after it start
+      starts-on : (k : ℕ) → startOf s (n + 1 + k) ≡ end + 1 + bytesBefore k (linesOf (drop (end + 1) s))
+      unfolding bytesBefore
+      starts-on k =
+          let step : n + 1 + k ≡ n + suc k = omega arith in
+          let long : length (take (end - at) (drop at s)) ≡ end - at = length-take-le (end - at) (drop at s) (simp length-drop (omega arith)) in
+          rw (step, going .starts (suc k), ended-here s at end found is-line within, long) (omega (arith, place))
 
       module _ (x : Line) (is : x ≡ lineOf choice (take (end - at) (drop at s))) where
         refuses : (fault : Fault) → checked most (state last listed passed) x ≡ Refused fault
@@ -122,6 +141,7 @@ module _ {choice : Choice} {s : List ℕ} {store₀ : List ℤ} {most : ℕ} {st
               put = going .put;
               many = going .many;
               holds = going .holds;
+              starts = starts-on;
               reads = ap (behind (going .put)) (sym (onward ∙ rw (← is, e))) ∙ going .reads;
             }
 
@@ -139,11 +159,12 @@ module _ {choice : Choice} {s : List ℕ} {store₀ : List ℤ} {most : ℕ} {st
             unfolding checked
             line-too-many h = refuses Fault.TooMany (rw (lists, in-order, le-leb most listed h))
 
-            pub line-listed : listed < most → (store₁ : List ℤ) → store₁ ≡ putAt store listed (record { line = n; body = r }) → length store₁ ≡ length store → {u : ℤ} → u ≡ r .time
+            pub line-listed : listed < most → (store₁ : List ℕ) → store₁ ≡ putAt store listed at (record { line = n; body = r }) → length store₁ ≡ length store → (u : ℤ) → u ≡ r .time
                 → Going choice s store₀ most store₁ (set last (r .processor) u) (listed + 1) passed (end + 1) (n + 1)
             unfolding onLine checked withListed
-            line-listed h store₁ puts same-long {u} same-time =
+            line-listed h store₁ puts same-long u same-time =
                 let e : Entry = record { line = n; body = r } in
+                let here : startOf s n ≡ at = starts-here in
                 record {
                   room = going .room;
                   long = same-long ∙ going .long;
@@ -153,7 +174,8 @@ module _ {choice : Choice} {s : List ℕ} {store₀ : List ℤ} {most : ℕ} {st
                   counts = omega (arith, going .counts, place);
                   put = going .put ++ (e ∷ []);
                   many = simp length-append (omega (arith, going .many));
-                  holds = puts ∙ rw (going .holds, ← going .many) (put-laid (going .put) e store₀ (omega (arith, going .many, going .room)));
+                  holds = puts ∙ rw (going .holds, ← going .many, ← here) (put-stored (startOf s) (going .put) store₀ e (omega (arith, going .many, going .room)));
+                  starts = starts-on;
                   reads = rw (same-time, append-snoc) (ap (behind (going .put)) (sym (onward ∙ rw (← is, lists, in-order, lt-leb most listed h))) ∙ going .reads);
                 }
 

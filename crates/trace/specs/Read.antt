@@ -1,23 +1,18 @@
 -- What reading a trace answers, and what it leaves in the store.
-use Prim.Native.Nat.{ℕ, _*_, _/_}
+use Prim.Native.Nat.{ℕ}
 use mathlib.Core.Path.{_≡_}
-use mathlib.Core.List.{List, _++_}
-use lib.ListN.{length, drop}
-use lib.IntN.{ℤ}
+use mathlib.Core.List.{List}
 use Rattle.paper.specs.Reading.{Reading, readOf}
 use Rattle.paper.specs.declared.Choice.{Choice}
-use Rattle.store.specs.Layout.{laid}
+use Rattle.reading.specs.Starts.{startOf}
+use Rattle.store.specs.Layout.{capacity, stored}
 use Rattle.trace.specs.declared.Read.{Read}
 
 -- the answer to a reading
 unfoldable pub answerOf : Reading → Read
 answerOf r = record { stop = r .stop; listed = r .state .listed; passed = r .state .passed }
 
--- the listed records up to the reading's end, one after the other, and after them what the store held
-unfoldable pub storeAfter : Reading → List ℤ → List ℤ
-storeAfter r store = laid (r .entries) ++ drop (7 * length (r .entries)) store
-
--- a trace read into a store: as many records as it has room for
-pub record ReadInto (choice : Choice) (s : List ℕ) (store : List ℤ) (r : Read) (after : List ℤ) : Type 0 where
-  pub answer : r ≡ answerOf (readOf choice (length store / 7) s)
-  pub holds : after ≡ storeAfter (readOf choice (length store / 7) s) store
+-- a trace read into a store: as many records as it has room for, up to the reading's end
+pub record ReadInto (choice : Choice) (s : List ℕ) (store : List ℕ) (r : Read) (after : List ℕ) : Type 0 where
+  pub answer : r ≡ answerOf (readOf choice (capacity store) s)
+  pub holds : after ≡ stored (startOf s) (readOf choice (capacity store) s .entries) store

@@ -15,10 +15,10 @@ pub struct Read {
 }
 
 // The listed records go into the store, as many as it has room for; their places there are their order in the file.
-pub fn read_trace(choice: Choice, s: &[u8], store: &mut [i64]) -> Read
+pub fn read_trace(choice: Choice, s: &[u8], store: &mut [u32]) -> Read
     ensures { λ r. ⌜ ReadInto choice (now (s .entry)) (now (store .entry)) r (now (store .exit)) ⌝ }
 {
-    let most = store.len() / store::WIDTH;
+    let most = store::capacity(store);
     let mut last: [i64; 64] = [-999_999_999_999_999; 64];
     let mut listed: usize = 0;
     let mut passed: usize = 0;
@@ -65,7 +65,7 @@ pub fn read_trace(choice: Choice, s: &[u8], store: &mut [i64]) -> Read
                         passed: passed,
                     };
                 }
-                store::put(store, listed, n, r);
+                store::put(store, listed, n, at, r);
                 last[p] = time;
                 listed += 1;
                 at = next;

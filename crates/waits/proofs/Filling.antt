@@ -5,7 +5,6 @@ use mathlib.Core.Path.{_≡_, refl, sym, ap, _∙_}
 use mathlib.Core.List.{List}
 use lib.ListN.{length, getD, set, length-set}
 use lib.Seq.{ext-getD, getD-set-same, getD-set-other}
-use lib.IntN.{ℤ}
 use borrow.Author.Count.{below-more}
 use Rattle.paper.specs.Clock.{listed}
 use Rattle.paper.specs.Matching.{entryAt}
@@ -36,12 +35,12 @@ module _ {A : Type 0} (d : A) (rule : ℕ → A) where
         }
 
     -- filled to the end, it is the whole table
-    pub fill-all : (l : List ℤ) → length out ≤ i → out ≡ listed (length (entriesIn l n)) rule
+    pub fill-all : (l : List ℕ) → length out ≤ i → out ≡ listed (length (entriesIn l n)) rule
     fill-all l all =
         rw (length-entries l n)
         (ext-getD d out (listed n rule) (f .size ∙ sym (length-listed n rule))
         (λ k k<. f .filled k (omega arith) ∙ sym (listed-at n rule k d (omega (arith, f .size)))))
 
 -- what is said of a record of the store is said of its entry
-pub of-entry : {A : Type 0} (f : Entry → A) (l : List ℤ) {n i : ℕ} {v : A} → i < n → v ≡ f (entryFrom l i) → v ≡ f (entryAt (entriesIn l n) i)
+pub of-entry : {A : Type 0} (f : Entry → A) (l : List ℕ) {n i : ℕ} {v : A} → i < n → v ≡ f (entryFrom l i) → v ≡ f (entryAt (entriesIn l n) i)
 of-entry f l {n} {i} i< e = e ∙ sym (ap f (entry-in l n i i<))

@@ -8,25 +8,24 @@ use mathlib.Core.Option.{some, Option·getD}
 use mathlib.Core.List.{List}
 use lib.ListN.{length, getD, set, replicate, length-set, length-replicate, getD-replicate}
 use lib.Seq.{getD-set-same, getD-set-other}
-use lib.IntN.{ℤ}
 use lib.Dec.{eqb}
 use borrow.Author.Tests.{eqb-true, eqb-false}
 use Rattle.paper.specs.Matching.{entryAt, lastOn}
 use Rattle.paper.specs.declared.Entry.{Entry}
-use Rattle.store.specs.Layout.{entryFrom, entriesIn}
+use Rattle.store.specs.Layout.{entryFrom, entriesIn, On}
 use Rattle.store.proofs.Laws.{length-entries, entry-in}
-use Rattle.waits.specs.Tables.{beforeAt, On}
+use Rattle.waits.specs.Tables.{beforeAt}
 
 -- of each processor the place of the last of the first i entries that is on it
 pub record Lasts (es : List Entry) (i : ℕ) (last : List ℕ) : Type 0 where
   pub size : length last ≡ 64
   pub each : (p : ℕ) → p < 64 → getD last p 0 ≡ Option·getD (lastOn es p i) (length es)
 
-pub last-none : (l : List ℤ) (n : ℕ) → Lasts (entriesIn l n) 0 (replicate 64 n)
+pub last-none : (l : List ℕ) (n : ℕ) → Lasts (entriesIn l n) 0 (replicate 64 n)
 unfolding lastOn
 last-none l n = record { size = length-replicate 64 n; each = λ p p<. getD-replicate 64 p n 0 p< ∙ sym (length-entries l n) }
 
-module _ (l : List ℤ) (n : ℕ) {i : ℕ} {last : List ℕ} (h : Lasts (entriesIn l n) i last) (i< : i < n) {p : ℕ} (on : On (entryFrom l i) p) where
+module _ (l : List ℕ) (n : ℕ) {i : ℕ} {last : List ℕ} (h : Lasts (entriesIn l n) i last) (i< : i < n) {p : ℕ} (on : On (entryFrom l i) p) where
   abbrev es : List Entry
   es = entriesIn l n
 

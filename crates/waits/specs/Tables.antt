@@ -1,14 +1,16 @@
 -- The tables that the engine of the clock condition takes: of each entry its original, the place of the record before it, and the
 -- latency from its send. A place that is the number of entries is no place.
-use Prim.Native.Nat.{ℕ, _<_}
-use mathlib.Core.Path.{_≡_}
+use Prim.Native.Nat.{ℕ}
+use mathlib.Core.Bool.{cond}
 use mathlib.Core.List.{List}
 use mathlib.Core.Option.{Option·getD}
 use lib.ListN.{length}
 use lib.IntN.{ℤ}
+use lib.Dec.{ltb}
 use Rattle.paper.specs.Clock.{listed}
 use Rattle.paper.specs.Matching.{entryAt, lastOn, latencyFor}
 use Rattle.paper.specs.declared.Entry.{Entry}
+use Rattle.store.specs.Layout.{tooMany, entriesIn}
 
 -- ---- one entry
 
@@ -37,9 +39,8 @@ beforesOf es = listed (length es) (beforeAt es)
 unfoldable pub latenciesOf : List ℕ → List Entry → List ℕ
 latenciesOf table es = listed (length es) (latencyAt table es)
 
--- ---- for the functions below
+-- ---- in a lent slice
 
--- p is the processor that the entry is on, one of sixty-four
-pub record On (e : Entry) (p : ℕ) : Type 0 where
-  pub is : p ≡ e .body .processor
-  pub low : p < 64
+-- of as many records as places are lent; where they are too many, nothing is touched
+unfoldable pub beforesInto : (store out : List ℕ) → List ℕ
+beforesInto store out = cond (ltb (length out) tooMany) (beforesOf (entriesIn store (length out))) out

@@ -1,90 +1,100 @@
--- The loops over the lines: what both passes know at their heads, and a line more.
+-- The loops over the moved records: what both passes know at their heads, and a stamp more.
 use Prim.Native.Nat.{ℕ, _+_, _-_, _≤_, _<_}
-use mathlib.Core.Path.{_≡_, refl, sym, ap, _∙_}
-use mathlib.Core.List.{List, [], _∷_, _++_, append-assoc, append-nil}
-use mathlib.Core.Bool.{true}
-use mathlib.Core.Option.{Option, none, some}
+use mathlib.Core.Path.{_≡_, sym, _∙_}
+use mathlib.Core.List.{List, [], _∷_, _++_}
+use mathlib.Core.Bool.{Bool, true, false}
+use mathlib.Core.Option.{none, some}
 use native.Mathlib.Omega.{arith}
-use lib.ListN.{length, take, drop, length-append, length-drop, drop-of-length-le}
-use lib.Seq.{drop-drop, length-take-le, append-snoc}
-use lib.IntN.{ℤ}
-use Rattle.bytes.specs.Bytes.{indexOf, slice}
-use Rattle.paper.specs.Reading.{linesOf}
-use Rattle.paper.specs.declared.Entry.{Entry}
-use Rattle.reading.proofs.Found.{found-at, unended-here, ended-here}
-use Rattle.writing.specs.ByLine.{stampFor, lineWith, used, writtenAt}
-use Rattle.writing.specs.Outcome.{allShown}
-use Rattle.writing.specs.Inner.{stampOf, Shown}
-use Rattle.writing.specs.declared.stamp.Stamp.{Stamp}
-use Rattle.writing.proofs.Times.{stamp-shown}
+use lib.ListN.{length, take, drop, getD, length-append, length-drop, drop-of-length-le}
+use lib.Seq.{drop-drop, length-take-le}
+use lib.IntN.{ℤ, pos}
+use Rattle.paper.specs.Forms.{timeShown}
+use Rattle.shown.specs.Writes.{shownLength}
+use Rattle.writing.specs.Patched.{movesFrom, stampOn, stampLength, inPlace, behind, patched, bytesFor}
+use Rattle.writing.specs.Inner.{movesAt, Stops, Next, StampOf}
+use Rattle.writing.specs.declared.place.Stamp.{Stamp}
+use Rattle.writing.proofs.Patches.{behind-none, behind-some, behind-nothing, behind-both, takes-some, place-told, stamp-replaced, stamp-misplaced}
 
--- At the head: the bytes of the lines so far, and what the lines from `at` on come to behind them is the whole.
-pub record Going (s : List ℕ) (es : List Entry) (times : List ℤ) (at n k to : ℕ) : Type 0 where
-  pub inside : at ≤ length s
-  pub line : n ≤ at + 1
-  pub met : k ≤ at
+-- At the head: the bytes up to `from` with their stamps replaced, and what is left behind them is the whole.
+pub record Going (s : List ℕ) (store : List ℕ) (times : List ℤ) (from k : ℕ) : Type 0 where
+  pub inside : from ≤ length s
+  pub stops : Stops store times k
   pub before : List ℕ
-  pub long : length before ≡ to
-  pub whole : before ++ writtenAt (linesOf (drop at s)) n (drop k es) (drop k times) ≡ writtenAt (linesOf s) 1 es times
+  pub whole : behind before (patched s store (drop from s) (movesAt store times k)) ≡ bytesFor s store times
 
-unfoldable pub going-start : (s : List ℕ) (es : List Entry) (times : List ℤ) → Going s es times 0 1 0 0
-going-start s es times =
-    record { inside = omega arith; line = omega arith; met = omega arith; before = []; long = refl; whole = refl }
+-- A stamp in its place, for which there is a new one of `new` bytes.
+pub record Sound (s : List ℕ) (from : ℕ) (r : Stamp) (new : ℕ) : Type 0 where
+  pub begins : from ≤ r .at
+  pub ends : r .at + r .long ≤ length s
+  pub was : 8 ≤ r .long
+  pub low : 8 ≤ new
+  pub high : new ≤ 17
 
-pub used-one : (o : Option ℤ) {m : ℕ} → m ≡ used o → m ≤ 1
-unfolding used
-used-one none e = omega arith
-used-one (some t) e = omega arith
+unfoldable pub going-start : (s : List ℕ) {store : List ℕ} {times : List ℤ} {k : ℕ} → Next store times 0 k → Going s store times 0 k
+unfolding bytesFor
+going-start s next =
+    record { inside = omega arith; stops = next .stops; before = []; whole = behind-nothing _ ∙ rw (← next .skips) }
 
-module _ {s : List ℕ} {es : List Entry} {times : List ℤ} {at n k to : ℕ} (going : Going s es times at n k to) where
-  -- no line left
-  pub at-end : length s ≤ at → going .before ≡ writtenAt (linesOf s) 1 es times
-  unfolding linesOf writtenAt
-  at-end h = sym (append-nil (going .before)) ∙ rw (drop-of-length-le s h) at (going .whole)
+module _ {s : List ℕ} {store : List ℕ} {times : List ℤ} {from k : ℕ} (going : Going s store times from k) where
+  -- no moved record left
+  pub all-told : length times ≤ k → bytesFor s store times ≡ some (going .before ++ drop from s)
+  unfolding patched movesFrom
+  all-told h = sym (going .whole) ∙ rw (drop-of-length-le times h) (behind-some (going .before) (drop from s))
 
-  pub length-at-end : length s ≤ at → length (writtenAt (linesOf s) 1 es times) ≡ to
-  length-at-end h = ap length (sym (at-end h)) ∙ going .long
+  -- the next one
+  module _ (left : k < length times) {r : Stamp} (found : StampOf s store k r) {t : ℤ} (is : t ≡ getD times k (pos 0)) where
+    abbrev placed : Bool
+    placed = inPlace (length s - from) (length s - r .at) (r .long) (shownLength t)
 
-  pub shown-next : (stamp : Stamp) → stampOf stamp ≡ stampFor n (drop k es) (drop k times) → allShown times ≡ true → Shown (stampOf stamp)
-  shown-next stamp is h = rw is (stamp-shown n k es times h)
+    -- what is kept before it, and the new time
+    abbrev word : List ℕ
+    word = take (r .at - from) (drop from s) ++ timeShown t
 
-  -- the search for the LF, with some bytes left
-  module _ (end : ℕ) (some-left : at < length s) (found : end ≡ at + indexOf 10 (slice at (length s) s)) where
-    abbrev l : List ℕ
-    l = take (end - at) (drop at s)
+    same-test : inPlace (length (drop from s)) (length (stampOn s store k)) (stampLength store k) (shownLength t) ≡ placed
+    same-test = rw (← found .place .from, ← found .long, length-drop from s, length-drop (r .at) s)
 
-    -- a last line without its LF
-    module _ (none-found : end ≡ length s) where
-      pub unended-last : going .before ++ l ≡ writtenAt (linesOf s) 1 es times
-      unfolding writtenAt
-      unended-last = rw (unended-here s at end found some-left none-found) at (going .whole)
+    next-move : behind (going .before) (patched s store (drop from s) (record { place = k; time = t } ∷ movesAt store times (k + 1))) ≡ bytesFor s store times
+    next-move = rw (is, ← going .stops .moved left) (going .whole)
 
-      pub length-unended : length (writtenAt (linesOf s) 1 es times) ≡ to + (end - at)
-      length-unended =
-          rw (← unended-last, length-append, going .long, length-take-le (end - at) (drop at s) (simp length-drop (omega arith)))
+    pub misplaced : placed ≡ false → bytesFor s store times ≡ none
+    misplaced e =
+        sym next-move
+        ∙ rw (stamp-misplaced s store (drop from s) k t (movesAt store times (k + 1)) (same-test ∙ e)) (behind-none (going .before))
 
-    -- a line, and the stamp that it gets
-    module _ (is-line : end ≡ length s → ⊥) (within : end ≤ length s) (stamp : Stamp) (is : stampOf stamp ≡ stampFor n (drop k es) (drop k times)) where
-      abbrev word : List ℕ
-      word = lineWith (stampOf stamp) l ++ (10 ∷ [])
-
-      pub more : going .before ++ word ++ writtenAt (linesOf (drop (end + 1) s)) (n + 1) (drop (k + used (stampOf stamp)) es) (drop (k + used (stampOf stamp)) times)
-          ≡ writtenAt (linesOf s) 1 es times
-      unfolding writtenAt
-      more =
-          rw (append-assoc, append-snoc, is, ← drop-drop (used (stampFor n (drop k es) (drop k times))) k es, ← drop-drop (used (stampFor n (drop k es) (drop k times))) k times)
-          (rw (ended-here s at end found is-line within) at (going .whole))
-
-      pub within-whole : to + (length (lineWith (stampOf stamp) l) + 1) ≤ length (writtenAt (linesOf s) 1 es times)
-      within-whole = rw (← more) (simp length-append (omega (arith, going .long)))
-
-      unfoldable pub onward : {met to′ : ℕ} → met ≡ used (stampOf stamp) → to′ ≡ to + (length (lineWith (stampOf stamp) l) + 1) → Going s es times (end + 1) (n + 1) (k + met) to′
-      onward {met} {to′} m e =
+    module _ (e : placed ≡ true) where
+      pub sound : Sound s from r (shownLength t)
+      unfolding stampLength
+      sound =
+          let p = place-told e in
+          let old = takes-some _ (rw (found .long) at (p .was)) in
+          let new = takes-some t (p .gets) in
           record {
-            inside = omega arith;
-            line = omega (arith, going .line, found-at s at end found);
-            met = omega (arith, going .met, found-at s at end found, used-one (stampOf stamp) m);
-            before = going .before ++ word;
-            long = simp length-append (omega (arith, going .long));
-            whole = rw m more;
+            begins = omega (arith, going .inside, found .place .inside, p .begins, p .ends, p .was);
+            ends = omega (arith, found .place .inside, p .ends);
+            was = rw (found .long) (old .low);
+            low = new .low;
+            high = new .high;
           }
+
+      pub word-length : length word ≡ r .at - from + shownLength t
+      word-length =
+          let run : length (take (r .at - from) (drop from s)) ≡ r .at - from =
+          length-take-le (r .at - from) (drop from s) (simp length-drop (omega (arith, found .place .inside)))
+          in
+          rw (length-append, run, takes-some t (place-told e .gets) .is)
+
+      run-is : take (length (drop from s) - length (stampOn s store k)) (drop from s) ≡ take (r .at - from) (drop from s)
+      run-is =
+          let n : length s - from - (length s - r .at) ≡ r .at - from = omega (arith, found .place .inside, sound .begins) in
+          rw (← found .place .from, length-drop from s, length-drop (r .at) s, n)
+
+      rest-is : drop (stampLength store k) (stampOn s store k) ≡ drop (r .at + r .long) s
+      rest-is = rw (← found .place .from, ← found .long) (drop-drop (r .long) (r .at) s)
+
+      pub more : behind (going .before ++ word) (patched s store (drop (r .at + r .long) s) (movesAt store times (k + 1))) ≡ bytesFor s store times
+      more =
+          sym (behind-both (going .before) word _)
+          ∙ rw (← run-is, ← rest-is, ← stamp-replaced s store (drop from s) k t (movesAt store times (k + 1)) (same-test ∙ e)) next-move
+
+      unfoldable pub onward : {next : ℕ} → Next store times (k + 1) next → Going s store times (r .at + r .long) next
+      onward n = record { inside = sound .ends; stops = n .stops; before = going .before ++ word; whole = rw (← n .skips) more }

@@ -1,10 +1,10 @@
 -- The laws behind the contracts, and those of the written trace.
-pub mod Cuts
-pub mod Times
-pub mod Stamps
+pub mod Patches
+pub mod Moved
+pub mod Places
 pub mod Puts
-pub mod Fits
 pub mod Going
+pub mod Sums
 pub mod Filling
 pub mod Outcomes
-pub mod ByLine
+pub mod Faithful

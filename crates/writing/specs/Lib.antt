@@ -1,5 +1,4 @@
 -- The definitions that the contracts of this crate cite.
-pub mod ByLine
+pub mod Patched
 pub mod Outcome
-pub mod Cuts
 pub mod Inner

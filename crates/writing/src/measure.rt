@@ -1,85 +1,77 @@
 // How long the written trace is.
 ghost use mathlib.Core.Path.{_≡_};
-ghost use mathlib.Core.Bool.{true};
-ghost use Prim.Native.Nat.{_+_, _≤_};
-ghost use lib.ListN.{length};
-ghost use lib.IntN.{natAbs};
-ghost use Rattle.paper.specs.Forms.{timeShown};
-ghost use Rattle.paper.specs.Written.{withStamp};
-ghost use Rattle.writing.specs.ByLine.{lineWith};
-ghost use Rattle.writing.specs.Outcome.{allShown, bytesFor};
-ghost use Rattle.writing.specs.Inner.{stampOf, Shown, fitOf};
-use crate::cut;
-use crate::stamp;
-use crate::stamp::Stamp;
+ghost use Prim.Native.Nat.{_+_, _-_};
+ghost use Rattle.writing.specs.Patched.{inPlace, bytesFor};
+ghost use Rattle.writing.specs.Outcome.{fitOf, answerOf};
+ghost use Rattle.writing.specs.Inner.{Changed};
+use crate::Written;
+use crate::moves;
+use crate::place;
 
-// A length that is not above the most.
-pub(crate) enum Fit {
-    Of(usize),
-    TooLong,
+// The bytes of the shortest time. Only what goes beyond them is counted, so that no sum wraps.
+const LEAST: usize = 8;
+
+// What the new timestamps take beyond the least, and what the old ones took; or some timestamp is not in its place.
+pub(crate) enum Change {
+    Of(usize, usize),
+    Unfit,
 }
 
-// Each time has a form.
-pub(crate) fn all_shown(times: &[i64]) -> bool
-    ensures { λ r. ⌜ r ≡ allShown (now (times .entry)) ⌝ }
+// A timestamp of `old` bytes, from which on there are `there` bytes, among the last `left`; its new one of `new` bytes.
+fn in_place(left: usize, there: usize, old: usize, new: usize) -> bool
+    ensures { λ r. ⌜ r ≡ inPlace left there old new ⌝ }
 {
-    let mut k: usize = 0;
+    if left < there {
+        return false;
+    }
+    if there < old {
+        return false;
+    }
+    if old == 0 {
+        return false;
+    }
+    0 < new
+}
+
+fn sum(s: &[u8], store: &[u32], times: &[i64]) -> Change
+    ensures { λ r. ⌜ Changed (now (s .entry)) (bytesFor (now (s .entry)) (now (store .entry)) (now (times .entry))) r ⌝ }
+{
+    let mut from: usize = 0;
+    let mut gained: usize = 0;
+    let mut lost: usize = 0;
+    let mut k = moves::next_moved(store, times, 0);
     while k < times.len() {
-        if shown::shown_length(times[k]) == 0 {
-            return false;
+        let stamp = place::stamp_of(s, store, k);
+        let new = shown::shown_length(times[k]);
+        if !in_place(s.len() - from, s.len() - stamp.at, stamp.long, new) {
+            return Change::Unfit;
         }
-        k += 1;
+        gained += new - LEAST;
+        lost += stamp.long - LEAST;
+        from = stamp.at + stamp.long;
+        k = moves::next_moved(store, times, k + 1);
     }
-    true
+    Change::Of(gained, lost)
 }
 
-fn stamped_length(l: &[u8], time: i64) -> usize
-    requires { ⌜ natAbs time ≤ 999999999999999 ⌝ }
-    ensures { λ r. ⌜ r ≡ length (withStamp (timeShown time) (now (l .entry))) ⌝ }
+// The answer for a trace of which some bytes are kept and some are gained.
+fn against(kept: usize, gained: usize, most: usize) -> Written
+    ensures { λ r. ⌜ r ≡ fitOf (kept + gained) most ⌝ }
 {
-    let c = cut::cut_line(l);
-    let shown = shown::shown_length(time);
-    c.head + (c.to - c.from) + (l.len() - c.rest) + shown + 3
+    if most < kept {
+        return Written::NoRoom;
+    }
+    if most - kept < gained {
+        return Written::NoRoom;
+    }
+    Written::Length(kept + gained)
 }
 
-// A line with its LF.
-fn line_length(l: &[u8], stamp: Stamp) -> usize
-    requires { ⌜ Shown (stampOf stamp) ⌝ }
-    ensures { λ r. ⌜ r ≡ length (lineWith (stampOf stamp) (now (l .entry))) + 1 ⌝ }
+pub(crate) fn measure(s: &[u8], store: &[u32], times: &[i64], most: usize) -> Written
+    ensures { λ r. ⌜ r ≡ answerOf (bytesFor (now (s .entry)) (now (store .entry)) (now (times .entry))) most ⌝ }
 {
-    match stamp {
-        Stamp::New(time) => stamped_length(l, time) + 1,
-        Stamp::Kept => l.len() + 1,
-    }
-}
-
-pub(crate) fn measure(s: &[u8], store: &[i64], times: &[i64], most: usize) -> Fit
-    requires { ⌜ allShown (now times) ≡ true ⌝ }
-    ensures { λ r. ⌜ r ≡ fitOf (length (bytesFor (now (s .entry)) (now (store .entry)) (now (times .entry)))) most ⌝ }
-{
-    let mut at: usize = 0;
-    let mut n: usize = 1;
-    let mut k: usize = 0;
-    let mut to: usize = 0;
-    while at < s.len() {
-        let end = bytes::scan::find(s, at, s.len(), 10);
-        if end == s.len() {
-            let left = end - at;
-            if most - to < left {
-                return Fit::TooLong;
-            }
-            return Fit::Of(to + left);
-        }
-        let stamp = stamp::stamp_for(store, times, k, n);
-        let size = line_length(&s[at..end], stamp);
-        if most - to < size {
-            return Fit::TooLong;
-        }
-        let met = stamp::met(stamp);
-        to += size;
-        k += met;
-        n += 1;
-        at = end + 1;
-    }
-    Fit::Of(to)
+    let Change::Of(gained, lost) = sum(s, store, times) else {
+        return Written::Unfit;
+    };
+    against(s.len() - lost, gained, most)
 }

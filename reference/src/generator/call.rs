@@ -25,7 +25,7 @@ pub fn room(case: &Case, random: &mut Random) -> usize {
 pub fn spoil(case: &mut Case, random: &mut Random) {
     let often = if random.chance(10) { 20 } else { 1 };
     if random.chance(often) {
-        case.choice = random.pick(&[0, 3, 4, u32::MAX, 1 << 16, 257, 0x8000_0001, 0x8000_0002]);
+        case.asked.choice = random.pick(&[0, 3, 4, u32::MAX, 1 << 16, 257, 0x8000_0001, 0x8000_0002]);
     }
     if random.chance(often) {
         let length = random.pick(&[0, 1, LATENCIES - 1, LATENCIES + 1, 2 * LATENCIES, MAX_RECORDS]);

@@ -21,7 +21,7 @@ pub fn records(random: &mut Random) -> Draft {
             latencies = flat_table(random.pick(&[0, 1, 20]));
             run.iter().map(|record| record.text()).collect()
         }
-        1 => many_types(count, random.place(200) + 1).iter().map(|record| record.text()).collect(),
+        1 => many_types(count, 0..random.between(1, 200)).iter().map(|record| record.text()).collect(),
         2 => {
             if random.chance(10) {
                 latencies = flat_table(1);

@@ -16,7 +16,7 @@ pub mod shape;
 mod soup;
 pub mod workload;
 
-use crate::{Answer, Inputs, LATENCIES, MAX_LATENCY, MAX_RECORDS, judge};
+use crate::{Answer, Asked, Inputs, LATENCIES, MAX_LATENCY, MAX_RECORDS, judge};
 use random::Random;
 
 /// One call, with the lengths of what is lent and how far each lent slice stands off its buffer's
@@ -28,7 +28,7 @@ pub struct Case {
     pub kind: &'static str,
     pub trace: Vec<u8>,
     pub latencies: Vec<u32>,
-    pub choice: u32,
+    pub asked: Asked,
     pub times: usize,
     pub wanted: bool,
     pub room: usize,
@@ -52,7 +52,7 @@ impl Case {
             kind,
             trace,
             latencies,
-            choice,
+            asked: Asked { choice },
             times: MAX_RECORDS,
             wanted: random.chance(50),
             room: 0,
@@ -70,7 +70,7 @@ impl Case {
         judge(Inputs {
             trace: &self.trace,
             latencies: &self.latencies,
-            choice: self.choice,
+            asked: self.asked,
             times: &mut times,
             wanted: true,
             room: &mut room,

@@ -4,6 +4,7 @@ use super::random::Random;
 use super::record::{Record, trace_of};
 use super::{Draft, flat_table, table};
 use crate::{LATENCIES, MAX_LATENCY, PROCESSORS};
+use std::ops::Range;
 
 /// One message handed on: each processor receives it and sends it to the next, all at time 0. With
 /// any latency above 0 every record but the first moves, one a round.
@@ -52,14 +53,13 @@ pub fn clocks_off(records: &mut [Record], ahead: i64) {
     }
 }
 
-/// Messages of so many types from processor 0 to 1, received in the opposite order of types.
-pub fn many_types(records: usize, kinds: usize) -> Vec<Record> {
-    let messages = records / 2;
-    let sends = (0..messages).map(|place| Record::send(place as i64, 0, 8, (place % kinds) as i64, 1));
-    let receives = (0..messages).map(|place| {
-        let kind = (messages - 1 - place) % kinds;
-        Record::receive(-52, (place + messages) as i64, 1, 8, kind as i64, 0)
-    });
+/// Messages of these types from processor 0 to 1, received in the opposite order of types.
+pub fn many_types(records: usize, kinds: Range<i64>) -> Vec<Record> {
+    let messages = records as i64 / 2;
+    let kind = |message: i64| kinds.start + message % (kinds.end - kinds.start);
+    let sends = (0..messages).map(|place| Record::send(place, 0, 8, kind(place), 1));
+    let receives = (0..messages)
+        .map(|place| Record::receive(-52, place + messages, 1, 8, kind(messages - 1 - place), 0));
     sends.chain(receives).collect()
 }
 

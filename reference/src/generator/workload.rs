@@ -29,7 +29,8 @@ pub fn all() -> Vec<Workload> {
         Workload { wanted: true, ..of("the same, the written trace wanted", trace_of(&off), LATENCY) },
         of("a chain of 2,000 rounds", trace_of(&chain(2_001, ROW)), 1),
         of("65,536 bytes passed over", passed_over(), 0),
-        of("a hundred types on one pair", trace_of(&many_types(MAX_RECORDS, 100)), 5),
+        of("a hundred types on one pair", trace_of(&many_types(MAX_RECORDS, 0..100)), 5),
+        of("a hundred negative types on one pair", trace_of(&many_types(MAX_RECORDS, -100..0)), 5),
         of("a bad last line", bad_last_line(sound), LATENCY),
     ]
 }

@@ -1,7 +1,7 @@
 //! What the tests share: a judge with everything lent as it should be, and the sample traces.
 
 use reference::generator::flat_table;
-use reference::{Answer, Inputs, MAX_BYTES, MAX_RECORDS, judge};
+use reference::{Answer, Asked, Inputs, MAX_BYTES, MAX_RECORDS, judge};
 
 pub const TRACE_A: &str = "\
 -3 -21 0.000010 0 0 3 2 8 1 1
@@ -20,14 +20,14 @@ pub const TRACE_B: &str = "\
 ";
 
 #[allow(dead_code)]
-pub const STRICT: u32 = 1;
-pub const LENIENT: u32 = 2;
+pub const STRICT: Asked = Asked { choice: 1 };
+pub const LENIENT: Asked = Asked { choice: 2 };
 
 /// The answer, and the places of the times that were touched.
-pub fn judged(trace: impl AsRef<[u8]>, latencies: &[u32], choice: u32) -> (Answer, Vec<i64>) {
+pub fn judged(trace: impl AsRef<[u8]>, latencies: &[u32], asked: Asked) -> (Answer, Vec<i64>) {
     let mut times = vec![i64::MIN; MAX_RECORDS];
     let trace = trace.as_ref();
-    let answer = judge(Inputs { trace, latencies, choice, times: &mut times, wanted: false, room: &mut [] });
+    let answer = judge(Inputs { trace, latencies, asked, times: &mut times, wanted: false, room: &mut [] });
     let touched = times.iter().rposition(|&time| time != i64::MIN).map_or(0, |last| last + 1);
     times.truncate(touched);
     (answer, times)
@@ -35,8 +35,8 @@ pub fn judged(trace: impl AsRef<[u8]>, latencies: &[u32], choice: u32) -> (Answe
 
 /// Number and line under latencies 0.
 #[allow(dead_code)]
-pub fn number(trace: impl AsRef<[u8]>, choice: u32) -> (u64, u64) {
-    let (answer, times) = judged(trace, &flat_table(0), choice);
+pub fn number(trace: impl AsRef<[u8]>, asked: Asked) -> (u64, u64) {
+    let (answer, times) = judged(trace, &flat_table(0), asked);
     assert_eq!(answer.number == 0, answer.verdict != 0);
     assert_eq!(times.len() as u64, answer.listed);
     (answer.number, answer.line)
@@ -50,7 +50,7 @@ pub fn written(trace: impl AsRef<[u8]>, latency: u32) -> Vec<u8> {
     let answer = judge(Inputs {
         trace: trace.as_ref(),
         latencies: &flat_table(latency),
-        choice: LENIENT,
+        asked: LENIENT,
         times: &mut times,
         wanted: true,
         room: &mut room,

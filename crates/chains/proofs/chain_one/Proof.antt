@@ -28,6 +28,9 @@ mul-link-2 c = search needs
 slice-write-link : tie.Need-slice-write-link
 slice-write-link c = search needs
 
+cast-heads : tie.Need-cast-heads
+cast-heads c = search needs
+
 mul-heads : tie.Need-mul-heads
 mul-heads c = search needs
 
@@ -39,7 +42,7 @@ enum-told-2 c = search needs
 
 returns : tie.Need-returns
 returns c =
-    let h = c .before .before .before .before .before .pre in
+    let h = c .before .before .before .before .before .before .pre in
     chain-none _ _ _ _ _ (h .0) (h .1) (neither-sends _ _ (c .before .before .side-at .ensures) (c .enum-told .given .1))
 
 same-length : tie.Need-same-length
@@ -53,13 +56,13 @@ returns-2 c =
     let b = c .before .bucket-of in
     let known = c .before .before .before in
     let side = known .before .before in
-    let h = side .before .before .before .pre in
+    let h = side .before .before .before .before .pre in
     chain-send _ _ _ _ _ (h .0) (h .1) (b .result) (b .ensures .low)
     (λ x. sends-in _ _ (side .side-at .ensures) (known .side .given .1) (b .result) x (b .ensures .is))
 
 returns-3 : tie.Need-returns-3
 returns-3 c =
-    let h = c .before .before .before .before .before .pre in
+    let h = c .before .before .before .before .before .before .pre in
     chain-none _ _ _ _ _ (h .0) (h .1) (receive-sends _ _ (c .before .before .side-at .ensures) (c .enum-told2 .given .1))
 
 pub chain-one-spec : {M : Type 1} → statement M
@@ -74,6 +77,7 @@ chain-one-spec =
     slice-read-link
     mul-link-2
     slice-write-link
+    cast-heads
     mul-heads
     slice-write-heads
     enum-told-2

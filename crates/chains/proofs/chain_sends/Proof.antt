@@ -16,7 +16,7 @@ abbrev μ-loop : tie.MeasureT-loop
 μ-loop store link₀ heads₀ i₀ link heads i = i
 
 loop-holds : tie.Need-loop-holds Inv-loop μ-loop
-loop-holds c = (omega arith, chain-begins _ _ _ (c .before .before .pre))
+loop-holds c = (omega arith, let pre = c .before .before .before .pre in chain-begins _ _ _ (pre .0) (pre .1))
 
 sub-i : tie.Need-sub-i Inv-loop μ-loop
 sub-i c = search needs
@@ -41,7 +41,7 @@ same-length c = c .before .loop .inv .1 .size
 same-length-2 : tie.Need-same-length-2 Inv-loop μ-loop
 same-length-2 c =
     let start = c .before .before .before .before in
-    c .before .loop .inv .1 .buckets ∙ sym (start .pre .buckets)
+    c .before .loop .inv .1 .buckets ∙ sym (start .before .pre .1 .buckets)
 
 returns : tie.Need-returns Inv-loop μ-loop
 returns c =

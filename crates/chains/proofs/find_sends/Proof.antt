@@ -3,13 +3,19 @@ use Prim.Native.Nat.{ℕ}
 use mathlib.Core.Path.{refl, ap, _∙_}
 use lib.ListN.{replicate}
 use Rattle.chains.proofs.Place.{place-begins}
-use Rattle.chains.proofs.Outcomes.{all-placed, not-found, all-found}
+use Rattle.chains.proofs.Outcomes.{all-placed, links-differ, too-many, they-fit, not-found, all-found}
 use borrow.Author.Needs.{needs}
 use Rattle.chains.proofs.find_sends.Statement.{statement}
 use Rattle.chains.proofs.find_sends.Tie as tie
 
 returns : tie.Need-returns
-returns c = not-found _ _ _ (c .if1 .taken)
+returns c = not-found _ _ _ (links-differ _ _ (c .if1 .taken))
+
+returns-2 : tie.Need-returns-2
+returns-2 c = not-found _ _ _ (too-many _ _ (c .before .if1 .left) (c .if2 .taken))
+
+cast-each-bucket : tie.Need-cast-each-bucket
+cast-each-bucket c = search needs
 
 each-bucket-requires : tie.Need-each-bucket-requires
 each-bucket-requires c κs = search needs
@@ -18,7 +24,9 @@ slice-aggregate-chain-sends : tie.Need-slice-aggregate-chain-sends
 slice-aggregate-chain-sends c = search needs
 
 chain-sends-requires : tie.Need-chain-sends-requires
-chain-sends-requires c κs = rw (c .before .before .before .if1 .left) (c .before .before .each-bucket .ensures)
+chain-sends-requires c κs =
+    let few = c .before .before .before in
+    rw (few .before .if1 .left) (few .if2 .left, c .before .before .each-bucket .ensures)
 
 each-bucket-requires-2 : tie.Need-each-bucket-requires-2
 each-bucket-requires-2 c κs = search needs
@@ -33,7 +41,7 @@ place-sends-requires : tie.Need-place-sends-requires
 place-sends-requires c κs =
     let second = c .before .before .before .before in
     let chained = second .before .before .before .before in
-    let fit = chained .before .before .before .before .if1 .left in
+    let fit = chained .before .before .before .before .before .if1 .left in
     place-begins _ _ _ _ _ _ refl (rw fit at (chained .chain-sends .ensures)) (second .each-bucket2 .ensures)
 
 clear-requires : tie.Need-clear-requires
@@ -45,19 +53,21 @@ same-length c = search needs
 same-length-2 : tie.Need-same-length-2
 same-length-2 c = search needs
 
-returns-2 : tie.Need-returns-2
-returns-2 c =
+returns-3 : tie.Need-returns-3
+returns-3 c =
     let placed = c .before .before .before .before .before .before .before .before .before in
     let chained = placed .before .before .before .before .before .before .before .before .before in
-    let fit = chained .before .before .before .before .if1 .left in
+    let few = chained .before .before .before .before in
     let p = placed .place-sends .ensures in
-    all-found _ _ _ fit (all-placed _ _ _ (p .size) (p .placed)) (c .before .before .clear .ensures ∙ ap (λ (k : ℕ). replicate k 0) (p .chained .size))
+    all-found _ _ _ (they-fit _ _ (few .before .if1 .left) (few .if2 .left)) (all-placed _ _ _ (p .size) (p .placed)) (c .before .before .clear .ensures ∙ ap (λ (k : ℕ). replicate k 0) (p .chained .size))
 
 pub find-sends-spec : {M : Type 1} → statement M
 find-sends-spec =
     tie.close
     (tie.spec
     returns
+    returns-2
+    cast-each-bucket
     each-bucket-requires
     slice-aggregate-chain-sends
     chain-sends-requires
@@ -68,4 +78,4 @@ find-sends-spec =
     clear-requires
     same-length
     same-length-2
-    returns-2)
+    returns-3)

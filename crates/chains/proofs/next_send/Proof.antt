@@ -4,6 +4,7 @@ use mathlib.Core.Path.{sym, _∙_}
 use native.Mathlib.Omega.{arith}
 use borrow.Author.Needs.{needs}
 use lib.ListN.{length}
+use Rattle.chains.proofs.Widths.{widens}
 use Rattle.chains.proofs.Walks.{comes-to, comes-out}
 use Rattle.chains.proofs.Search.{Forwards, forward-begins, forward-less, forward-turns}
 use Rattle.chains.proofs.next_send.Statement.{statement}
@@ -16,7 +17,7 @@ abbrev μ-loop : tie.MeasureT-loop
 μ-loop store link at key s₀ s = length link - s
 
 loop-holds : tie.Need-loop-holds Inv-loop μ-loop
-loop-holds c = forward-begins _ _ _ _ (c .before .pre)
+loop-holds c = forward-begins _ _ _ _ (c .before .before .pre)
 
 send-under-requires : tie.Need-send-under-requires Inv-loop μ-loop
 send-under-requires c κs = search needs
@@ -30,16 +31,19 @@ mul-s c = search needs
 shared-slice-read-s : tie.Need-shared-slice-read-s Inv-loop μ-loop
 shared-slice-read-s c = search needs
 
+cast-s : tie.Need-cast-s Inv-loop μ-loop
+cast-s c = widens (c .shared-slice-known3 .given _)
+
 loop-less : tie.Need-loop-less Inv-loop μ-loop
 loop-less c =
     let start = c .before .before .before .before .before .before in
     let l = c .before .before .before .before .loop in
-    omega (arith, forward-less _ _ (start .args .key) _ (start .pre) (l .s) (l .inv) (c .before .before .before .loop-test .taken))
+    omega (arith, forward-less _ _ (start .before .args .key) _ (start .before .pre) (l .s) (l .inv) (c .before .before .before .loop-test .taken))
 
 loop-again : tie.Need-loop-again Inv-loop μ-loop
 loop-again c =
     let l = c .before .before .before .before .loop in
-    forward-turns _ _ _ _ (c .before .before .before .before .before .before .pre) (l .s) (l .inv) (c .before .before .before .loop-test .taken)
+    forward-turns _ _ _ _ (c .before .before .before .before .before .before .before .pre) (l .s) (l .inv) (c .before .before .before .loop-test .taken)
     (sym (c .before .before .send-under .ensures) ∙ c .before .if1 .left)
 
 returns-2 : tie.Need-returns-2 Inv-loop μ-loop
@@ -56,6 +60,7 @@ next-send-spec =
     returns
     mul-s
     shared-slice-read-s
+    cast-s
     loop-less
     loop-again
     returns-2)

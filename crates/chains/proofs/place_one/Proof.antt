@@ -11,6 +11,9 @@ side-at-requires c κs = search needs
 enum-told : tie.Need-enum-told
 enum-told c = search needs
 
+cast-sends : tie.Need-cast-sends
+cast-sends c = search needs
+
 mul-sends : tie.Need-mul-sends
 mul-sends c = search needs
 
@@ -19,6 +22,9 @@ slice-write-sends c = search needs
 
 enum-told-2 : tie.Need-enum-told-2
 enum-told-2 c = search needs
+
+cast-sends-2 : tie.Need-cast-sends-2
+cast-sends-2 c = search needs
 
 mul-sends-2 : tie.Need-mul-sends-2
 mul-sends-2 c = search needs
@@ -49,9 +55,15 @@ send-behind-requires c κs =
     let bucket = c .before .before .before .before in
     let known = bucket .before .before in
     let side = known .before .before in
-    let h = side .before .before .before .before .before .pre in
+    let h = side .before .before .before .before .before .before .pre in
     let k = known .side .given in
     rw (bucket .bucket-of .ensures .is) (search-ready _ _ _ _ _ _ _ (h .0) (h .1) (k .0 .0) (sym (side .side-at .ensures) ∙ k .1))
+
+add-behind : tie.Need-add-behind
+add-behind c = search needs
+
+cast-behind : tie.Need-cast-behind
+cast-behind c = search needs
 
 mul-sends-3 : tie.Need-mul-sends-3
 mul-sends-3 c = search needs
@@ -65,9 +77,6 @@ mul-link c = search needs
 slice-write-link : tie.Need-slice-write-link
 slice-write-link c = search needs
 
-add-seen : tie.Need-add-seen
-add-seen c = search needs
-
 mul-seen : tie.Need-mul-seen
 mul-seen c = search needs
 
@@ -80,7 +89,7 @@ same-length c = search needs
 returns : tie.Need-returns
 returns c =
     let side = c .before .before in
-    let h = side .before .before .before .before .before .pre in
+    let h = side .before .before .before .before .before .before .pre in
     place-neither _ _ _ _ _ _ _ (h .0) (h .1) (side .side-at .ensures) (c .enum-told .given .1)
 
 same-length-2 : tie.Need-same-length-2
@@ -89,7 +98,7 @@ same-length-2 c = search needs
 returns-2 : tie.Need-returns-2
 returns-2 c =
     let side = c .before .before in
-    let h = side .before .before .before .before .before .pre in
+    let h = side .before .before .before .before .before .before .pre in
     place-send _ _ _ _ _ _ _ (h .0) (h .1) (side .side-at .ensures) (c .enum-told2 .given .1)
 
 same-length-3 : tie.Need-same-length-3
@@ -106,7 +115,7 @@ returns-3 c =
     let bucket = c .before .before .before .before .before in
     let known = bucket .before .before in
     let side = known .before .before in
-    let h = side .before .before .before .before .before .pre in
+    let h = side .before .before .before .before .before .before .pre in
     let k = known .side .given in
     let b = bucket .bucket-of .ensures .is in
     rw b
@@ -119,9 +128,11 @@ place-one-spec =
     (tie.spec
     side-at-requires
     enum-told
+    cast-sends
     mul-sends
     slice-write-sends
     enum-told-2
+    cast-sends-2
     mul-sends-2
     slice-write-sends-2
     enum-known-side
@@ -131,11 +142,12 @@ place-one-spec =
     mul-send-behind
     shared-slice-read-send-behind
     send-behind-requires
+    add-behind
+    cast-behind
     mul-sends-3
     slice-write-sends-3
     mul-link
     slice-write-link
-    add-seen
     mul-seen
     slice-write-seen
     same-length

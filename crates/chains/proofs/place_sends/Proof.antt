@@ -16,7 +16,7 @@ abbrev μ-loop : tie.MeasureT-loop
 μ-loop store sends₀ link₀ heads seen₀ i₀ sends link seen i = length sends₀ - i
 
 loop-holds : tie.Need-loop-holds Inv-loop μ-loop
-loop-holds c = (omega arith, c .before .before .before .before .pre)
+loop-holds c = (omega arith, c .before .before .before .before .before .pre)
 
 place-one-requires : tie.Need-place-one-requires Inv-loop μ-loop
 place-one-requires c κs =
@@ -44,18 +44,18 @@ same-length c = c .before .loop .inv .1 .size
 same-length-2 : tie.Need-same-length-2 Inv-loop μ-loop
 same-length-2 c =
     let start = c .before .before .before .before .before .before in
-    c .before .loop .inv .1 .chained .size ∙ sym (start .pre .chained .size)
+    c .before .loop .inv .1 .chained .size ∙ sym (start .before .pre .chained .size)
 
 same-length-3 : tie.Need-same-length-3 Inv-loop μ-loop
 same-length-3 c =
     let start = c .before .before .before .before .before .before in
-    c .before .loop .inv .1 .buckets ∙ sym (start .pre .buckets)
+    c .before .loop .inv .1 .buckets ∙ sym (start .before .pre .buckets)
 
 returns : tie.Need-returns Inv-loop μ-loop
 returns c =
     let start = c .before .before .before .before .before .before in
     let l = c .before .loop in
-    let e : l .i ≡ length (start .args .sends .now) = omega (arith, l .inv .1 .size, c .loop-test .left) in
+    let e : l .i ≡ length (start .before .args .sends .now) = omega (arith, l .inv .1 .size, c .loop-test .left) in
     rw e at (l .inv .1)
 
 pub place-sends-spec : {M : Type 1} → statement M

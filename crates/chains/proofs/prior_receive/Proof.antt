@@ -2,6 +2,7 @@
 use mathlib.Core.Path.{sym, _∙_}
 use native.Mathlib.Omega.{arith}
 use borrow.Author.Needs.{needs}
+use Rattle.chains.proofs.Widths.{widens}
 use Rattle.chains.proofs.Walks.{comes-back-to, comes-back-out}
 use Rattle.chains.proofs.Search.{Backwards, backward-begins, backward-less, backward-turns}
 use Rattle.chains.proofs.prior_receive.Statement.{statement}
@@ -14,7 +15,7 @@ abbrev μ-loop : tie.MeasureT-loop
 μ-loop store link from key p₀ p = p
 
 loop-holds : tie.Need-loop-holds Inv-loop μ-loop
-loop-holds c = backward-begins _ _ _ _ (c .before .pre)
+loop-holds c = backward-begins _ _ _ _ (c .before .before .pre)
 
 sub-at : tie.Need-sub-at Inv-loop μ-loop
 sub-at c = search needs
@@ -28,20 +29,23 @@ returns c =
     (sym (c .before .receive-under .ensures) ∙ c .if1 .taken)
 
 mul-p : tie.Need-mul-p Inv-loop μ-loop
-mul-p c = omega (arith, c .before .before .before .before .before .pre .upto)
+mul-p c = omega (arith, c .before .before .before .before .before .before .pre .upto)
 
 shared-slice-read-p : tie.Need-shared-slice-read-p Inv-loop μ-loop
-shared-slice-read-p c = omega (arith, c .before .before .before .before .before .before .pre .upto)
+shared-slice-read-p c = omega (arith, c .before .before .before .before .before .before .before .pre .upto)
+
+cast-p : tie.Need-cast-p Inv-loop μ-loop
+cast-p c = widens (c .shared-slice-known3 .given _)
 
 loop-less : tie.Need-loop-less Inv-loop μ-loop
 loop-less c =
     let l = c .before .before .before .before .loop in
-    backward-less _ _ _ _ (c .before .before .before .before .before .before .pre) (l .p) (l .inv) (c .before .before .before .loop-test .taken)
+    backward-less _ _ _ _ (c .before .before .before .before .before .before .before .pre) (l .p) (l .inv) (c .before .before .before .loop-test .taken)
 
 loop-again : tie.Need-loop-again Inv-loop μ-loop
 loop-again c =
     let l = c .before .before .before .before .loop in
-    backward-turns _ _ _ _ (c .before .before .before .before .before .before .pre) (l .p) (l .inv) (c .before .before .before .loop-test .taken)
+    backward-turns _ _ _ _ (c .before .before .before .before .before .before .before .pre) (l .p) (l .inv) (c .before .before .before .loop-test .taken)
     (sym (c .before .before .receive-under .ensures) ∙ c .before .if1 .left)
 
 returns-2 : tie.Need-returns-2 Inv-loop μ-loop
@@ -59,6 +63,7 @@ prior-receive-spec =
     returns
     mul-p
     shared-slice-read-p
+    cast-p
     loop-less
     loop-again
     returns-2)

@@ -13,18 +13,21 @@ start-from-requires c κs = search needs
 next-send-requires : tie.Need-next-send-requires
 next-send-requires c κs =
     let start = c .before .before .before .before in
-    let a = start .args in
+    let a = start .before .args in
     let prior = c .before .prior-receive in
-    rw (c .start-from .ensures) (may-start _ (a .sends .now) _ (a .key) (a .head) (a .from) (start .pre) (prior .result) (prior .ensures))
+    rw (c .start-from .ensures) (may-start _ (a .sends .now) _ (a .key) (a .head) (a .from) (start .before .pre) (prior .result) (prior .ensures))
+
+cast-result : tie.Need-cast-result
+cast-result c = search needs
 
 returns : tie.Need-returns
 returns c =
     let start = c .before .before .before .before .before in
-    let a = start .args in
+    let a = start .before .args in
     let prior = c .before .before .prior-receive in
-    found _ (a .sends .now) _ (a .key) (a .head) (a .from) (start .pre) (prior .result) _ (prior .ensures)
+    found _ (a .sends .now) _ (a .key) (a .head) (a .from) (start .before .pre) (prior .result) _ (prior .ensures)
     (rw (← c .before .start-from .ensures) (c .next-send .ensures))
 
 pub send-behind-spec : {M : Type 1} → statement M
 send-behind-spec =
-    tie.close (tie.spec prior-receive-requires start-from-requires next-send-requires returns)
+    tie.close (tie.spec prior-receive-requires start-from-requires next-send-requires cast-result returns)

@@ -1,5 +1,6 @@
 -- `chains::start_from` meets its contract: its tests are those of `startFrom`.
 use borrow.Author.Needs.{needs}
+use Rattle.chains.proofs.Widths.{widens}
 use Rattle.chains.proofs.Search.{start-head, start-behind, start-none}
 use Rattle.chains.proofs.start_from.Statement.{statement}
 use Rattle.chains.proofs.start_from.Tie as tie
@@ -16,11 +17,17 @@ mul-s c = search needs
 shared-slice-read-s : tie.Need-shared-slice-read-s
 shared-slice-read-s c = search needs
 
+cast-s : tie.Need-cast-s
+cast-s c = widens (c .shared-slice-known .given _)
+
 mul-result : tie.Need-mul-result
 mul-result c = search needs
 
 shared-slice-read-result : tie.Need-shared-slice-read-result
 shared-slice-read-result c = search needs
+
+cast-result : tie.Need-cast-result
+cast-result c = widens (c .shared-slice-known2 .given _)
 
 returns-2 : tie.Need-returns-2
 returns-2 c =
@@ -40,7 +47,9 @@ start-from-spec =
     sub-s
     mul-s
     shared-slice-read-s
+    cast-s
     mul-result
     shared-slice-read-result
+    cast-result
     returns-2
     returns-3)

@@ -1,4 +1,5 @@
 -- How the rounds ended, told by both slices.
+use native.Mathlib.Omega.{arith}
 use borrow.Author.Needs.{needs}
 use Rattle.clock.proofs.Outcomes.{answered-rounds, answered-never}
 use Rattle.clock.proofs.answer.Statement.{statement}
@@ -13,11 +14,11 @@ enum-known-run c = search needs
 enum-told : tie.Need-enum-told
 enum-told c = search needs
 
-start-requires : tie.Need-start-requires
-start-requires c κs = search needs
+clear-requires : tie.Need-clear-requires
+clear-requires c κs = search needs
 
-start-requires-2 : tie.Need-start-requires-2
-start-requires-2 c κs = search needs
+clear-requires-2 : tie.Need-clear-requires-2
+clear-requires-2 c κs = search needs
 
 same-length : tie.Need-same-length
 same-length c = search needs
@@ -26,7 +27,7 @@ same-length-2 : tie.Need-same-length-2
 same-length-2 c = search needs
 
 returns : tie.Need-returns
-returns c = answered-rounds _ _ _ _ _ (rw (c .before .run .given .1) at (c .before .before .before .before .before .rounds .ensures))
+returns c = answered-rounds _ _ _ (rw (c .before .run .given .1) at (c .before .before .before .before .before .rounds .ensures))
 
 same-length-3 : tie.Need-same-length-3
 same-length-3 c = search needs
@@ -36,10 +37,10 @@ same-length-4 c = search needs
 
 returns-2 : tie.Need-returns-2
 returns-2 c =
-    let put-times = c .before .before .before .before in
-    let ended = put-times .before .before in
-    answered-never _ _ _ _ _ _ (rw (ended .enum-told .given .1) at (ended .before .before .before .before .rounds .ensures))
-    (put-times .start .ensures .holds) (c .before .start2 .ensures .holds)
+    let c₄ = c .before .before .before .before in
+    let c₆ = c₄ .before .before in
+    answered-never _ _ _ _ (rw (c₆ .enum-told .given .1) at (c₆ .before .before .before .before .rounds .ensures)) (omega arith) (omega arith)
+    (c₄ .clear .ensures) (c .before .clear2 .ensures)
 
 pub answer-spec : {M : Type 1} → statement M
 answer-spec =
@@ -48,8 +49,8 @@ answer-spec =
     rounds-requires
     enum-known-run
     enum-told
-    start-requires
-    start-requires-2
+    clear-requires
+    clear-requires-2
     same-length
     same-length-2
     returns

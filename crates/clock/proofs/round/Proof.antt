@@ -4,26 +4,23 @@ use native.Mathlib.Omega.{arith}
 use mathlib.Core.Path.{_≡_, sym, ap, _∙_}
 use mathlib.Core.Logic.{⊎-elim}
 use lib.ListN.{length, length-set}
-use lib.Signed.{_≤ℤ_}
 use mir.Syntax.{w64}
 use mir.Val.{SFits, toZ, ofZ}
 use mir.Facts.{toZ-ofZ}
-use denote.Ref.{now}
-use borrow.Author.Needs.{needs}
-use Rattle.paper.specs.Clock.{limit, timeAt}
-use Rattle.clock.specs.Promise.{waitsOf}
+use borrow.Author.Needs.{needs, sfits-of}
+use Rattle.paper.specs.Clock.{limit}
+use Rattle.clock.specs.Inner.{following}
 use Rattle.clock.proofs.Tests.{passed, failed}
-use Rattle.clock.proofs.Waiting.{inside}
 use Rattle.clock.proofs.Turning.{Turning, turn-none, turn-over, turn-good, turn-bad, turned-same, turned-moved}
 use Rattle.clock.proofs.round.Statement.{statement}
 use Rattle.clock.proofs.round.Tie as tie
 
 abbrev Inv-loop : tie.InvT-loop
-Inv-loop originals before send latency from to₀ same₀ i₀ to same i =
-    (i ≤ length originals) × (length to ≡ length originals) × Turning (waitsOf originals before send latency) from to same i
+Inv-loop before send latency from to₀ same₀ i₀ to same i =
+    (i ≤ length from) × (length to ≡ length from) × Turning (following before send latency) from to same i
 
 abbrev μ-loop : tie.MeasureT-loop
-μ-loop originals before send latency from to₀ same₀ i₀ to same i = length originals - i
+μ-loop before send latency from to₀ same₀ i₀ to same i = length from - i
 
 loop-holds : tie.Need-loop-holds Inv-loop μ-loop
 loop-holds c = (omega arith, omega arith, turn-none _ _ _)
@@ -36,11 +33,9 @@ same-length c = search needs
 
 returns : tie.Need-returns Inv-loop μ-loop
 returns c =
-    let at = c .before .before .before .loop in
     let time = c .before .next-at in
-    let fr : SFits w64 (time .result) = record { sfits = time .ok } in
-    turn-over _ _ (at .inv .2) _ (time .ensures) (inside _ _ _ _ _ (c .before .before .loop-test .taken))
-    (passed limit _ (simp (toZ-ofZ, fr) at (c .if1 .taken)))
+    turn-over _ _ (c .before .before .before .loop .inv .2) _ (time .ensures) (c .before .before .loop-test .taken)
+    (passed limit _ (rw (toZ-ofZ (sfits-of (time .ok))) at (c .if1 .taken)))
 
 mul-if2 : tie.Need-mul-if2 Inv-loop μ-loop
 mul-if2 c = search needs
@@ -62,18 +57,17 @@ loop-less c = search needs
 
 loop-again : tie.Need-loop-again Inv-loop μ-loop
 loop-again c =
-    let at = c .before .before .before .before .before .loop in
-    let time = c .before .before .before .next-at in
-    let fr : SFits w64 (time .result) = record { sfits = time .ok } in
-    let start = c .before .before .before .before .before .before .before .before .before in
-    let fx : SFits w64 (timeAt (now (start .args .from)) (at .i)) = record { sfits = c .before .if22 .given } in
-    let low : time .result ≤ℤ limit = failed limit _ (simp (toZ-ofZ, fr) at (c .before .before .if1 .left)) in
+    let c₃ = c .before .before .before in
+    let at = c₃ .before .before .loop in
+    let time = c₃ .next-at in
+    let fits : SFits w64 (time .result) = sfits-of (time .ok) in
+    let low = failed limit _ (rw (toZ-ofZ fits) at (c .before .before .if1 .left)) in
     let l : at .i < length (at .to) = omega arith in (
       omega arith,
       simp length-set (omega arith),
-      rw (toZ-ofZ fr)
+      rw (toZ-ofZ fits)
           (⊎-elim (λ way. rw (way .1) (turn-bad _ _ (at .inv .2) _ (time .ensures) l low (λ e. way .0 .taken (ap (ofZ w64) e))))
-          (λ way. rw (way .1) (turn-good _ _ (at .inv .2) _ (time .ensures) l low (sym (toZ-ofZ fr) ∙ ap (toZ w64) (way .0 .left) ∙ toZ-ofZ fx)))
+          (λ way. rw (way .1) (turn-good _ _ (at .inv .2) _ (time .ensures) l low (sym (toZ-ofZ fits) ∙ ap (toZ w64) (way .0 .left) ∙ toZ-ofZ (sfits-of (c .before .if22 .given)))))
           (c .if2 .came)),
     )
 
@@ -81,17 +75,14 @@ same-length-2 : tie.Need-same-length-2 Inv-loop μ-loop
 same-length-2 c = search needs
 
 returns-2 : tie.Need-returns-2 Inv-loop μ-loop
-unfolding waitsOf
 returns-2 c =
     let at = c .before .before .loop in
-    let own = c .before .before .before .before .before .before .pre .1 .0 .size in
-    turned-same _ _ (omega arith) (at .inv .1) own (rw (c .if3 .taken) at (at .inv .2))
+    turned-same _ _ (omega arith) (at .inv .1) (rw (c .if3 .taken) at (at .inv .2))
 
 same-length-3 : tie.Need-same-length-3 Inv-loop μ-loop
 same-length-3 c = search needs
 
 returns-3 : tie.Need-returns-3 Inv-loop μ-loop
-unfolding waitsOf
 returns-3 c =
     let at = c .before .before .loop in
     turned-moved _ _ (omega arith) (at .inv .1) (rw (c .if3 .left) at (at .inv .2))

@@ -1,7 +1,7 @@
 -- The loop of rounds: the slice in front holds round k, and none before it was repeated.
 use Prim.Native.Nat.{_≤_, _-_}
 use native.Mathlib.Omega.{arith}
-use mathlib.Core.Path.{_≡_}
+use mathlib.Core.Path.{_≡_, refl}
 use lib.ListN.{length}
 use borrow.Author.Needs.{needs}
 use borrow.Author.Tests.{not-true, not-false}
@@ -13,30 +13,27 @@ use Rattle.clock.proofs.rounds.Statement.{statement}
 use Rattle.clock.proofs.rounds.Tie as tie
 
 abbrev Inv-loop : tie.InvT-loop
-Inv-loop originals before send latency times₀ spare₀ first₀ k₀ times spare first k =
-    (k ≤ length originals) × (length times ≡ length originals) × (length spare ≡ length originals)
-    × Going (waitsOf originals before send latency) k (front first times spare)
+Inv-loop before send latency times₀ spare₀ first₀ k₀ times spare first k =
+    (k ≤ length times₀) × (length times ≡ length times₀) × (length spare ≡ length times₀)
+    × Going (waitsOf times₀ before send latency) k (front first times spare)
 
 abbrev μ-loop : tie.MeasureT-loop
-μ-loop originals before send latency times₀ spare₀ first₀ k₀ times spare first k = length originals - k
+μ-loop before send latency times₀ spare₀ first₀ k₀ times spare first k = length times₀ - k
 
-start-requires : tie.Need-start-requires Inv-loop μ-loop
-start-requires c κs = search needs
+all-low-requires : tie.Need-all-low-requires Inv-loop μ-loop
+all-low-requires c κs = search needs
 
 same-length : tie.Need-same-length Inv-loop μ-loop
-same-length c = omega arith
+same-length c = search needs
 
 returns : tie.Need-returns Inv-loop μ-loop
-returns c = start-high _ _ _ _ (c .before .before .start .ensures) (not-true _ (c .if1 .taken)) _ _
+returns c = start-high _ _ _ _ (rw (not-true (c .before .all-low .result) (c .if1 .taken)) at (c .before .all-low .ensures)) _ _
 
 loop-holds : tie.Need-loop-holds Inv-loop μ-loop
-loop-holds c = (omega arith, omega arith, omega arith, start-low _ _ _ _ (c .before .before .start .ensures) (not-false _ (c .if1 .left)))
+loop-holds c = (omega arith, refl, omega arith, start-low _ _ _ _ (rw (not-false (c .before .all-low .result) (c .if1 .left)) at (c .before .all-low .ensures)))
 
 step-requires : tie.Need-step-requires Inv-loop μ-loop
-unfolding waitsOf
-step-requires c κs =
-    let at = c .before .before .loop in
-    (c .before .before .before .before .before .before .before .before .before .before .pre .0, (at .inv .3 .ready, (at .inv .1, at .inv .2)))
+step-requires c κs = (c .before .before .loop .inv .3 .low, search needs)
 
 enum-told : tie.Need-enum-told Inv-loop μ-loop
 enum-told c = search needs
@@ -81,7 +78,7 @@ same-length-7 c = omega arith
 returns-4 : tie.Need-returns-4 Inv-loop μ-loop
 returns-4 c =
     let at = c .before .before .before .before .before in
-    step-late _ _ _ _ (at .before .before .before .loop .inv .3) (at .step .ensures) (c .before .enum-told3 .given .1) (c .if2 .taken)
+    step-late _ _ _ _ (at .before .before .before .loop .inv .3) (at .step .ensures) (c .before .enum-told3 .given .1) (omega arith)
 
 loop-less : tie.Need-loop-less Inv-loop μ-loop
 loop-less c = omega arith
@@ -98,7 +95,7 @@ rounds-spec =
     (tie.spec
     Inv-loop
     μ-loop
-    start-requires
+    all-low-requires
     same-length
     returns
     loop-holds

@@ -6,13 +6,11 @@ use Rattle.clock.proofs.Outcomes.{misfit, outcome-fit}
 use Rattle.clock.proofs.settle.Statement.{statement}
 use Rattle.clock.proofs.settle.Tie as tie
 
-fit-requires : tie.Need-fit-requires
-fit-requires c κs = search needs
+all-are-requires : tie.Need-all-are-requires
+all-are-requires c κs = search needs
 
 answer-requires : tie.Need-answer-requires
-answer-requires c κs =
-    let f = fits (sym (c .before .before .before .fit .ensures) ∙ c .before .before .if1 .taken) in
-    (record { befores = f .befores; sends = f .sends; latencies = f .latencies }, (f .all-times, f .all-spare))
+answer-requires c κs = fits _ _ _ _ _ (sym (c .before .before .before .all-are .ensures) ∙ c .before .before .if1 .taken)
 
 same-length : tie.Need-same-length
 same-length c = search needs
@@ -23,12 +21,12 @@ same-length-2 c = search needs
 returns : tie.Need-returns
 returns c =
     c .before .before .answer .ensures
-    ∙ outcome-fit _ _ _ _ _ _
-    (sym (c .before .before .before .before .before .before .fit .ensures) ∙ c .before .before .before .before .before .if1 .taken)
+    ∙ outcome-fit _ _ _ _ _
+    (sym (c .before .before .before .before .before .before .all-are .ensures) ∙ c .before .before .before .before .before .if1 .taken)
 
 returns-2 : tie.Need-returns-2
-returns-2 c = misfit _ _ _ _ _ _ (sym (c .before .fit .ensures) ∙ c .if1 .left)
+returns-2 c = misfit _ _ _ _ _ (sym (c .before .all-are .ensures) ∙ c .if1 .left)
 
 pub settle-spec : {M : Type 1} → statement M
 settle-spec =
-    tie.close (tie.spec fit-requires answer-requires same-length same-length-2 returns returns-2)
+    tie.close (tie.spec all-are-requires answer-requires same-length same-length-2 returns returns-2)

@@ -5,9 +5,7 @@ use Rattle.clock.proofs.step.Statement.{statement}
 use Rattle.clock.proofs.step.Tie as tie
 
 round-requires : tie.Need-round-requires
-round-requires c κs =
-    let pre = c .before .before .before .before .before .before .pre in
-    (pre .0, (rw (c .before .before .if1 .taken) at (pre .1 .0), pre .1 .1 .1))
+round-requires c κs = (rw (c .before .before .if1 .taken) at (c .before .before .before .before .before .before .pre .0), search needs)
 
 same-length : tie.Need-same-length
 same-length c = search needs
@@ -16,14 +14,10 @@ same-length-2 : tie.Need-same-length-2
 same-length-2 c = search needs
 
 returns : tie.Need-returns
-returns c =
-    rw (c .before .before .before .before .if1 .taken)
-    (record { kept = refl; turned = c .before .round .ensures })
+returns c = rw (c .before .before .before .before .if1 .taken) (record { kept = refl; turned = c .before .round .ensures })
 
 round-requires-2 : tie.Need-round-requires-2
-round-requires-2 c κs =
-    let pre = c .before .before .before .before .before .before .pre in
-    (pre .0, (rw (c .before .before .if1 .left) at (pre .1 .0), pre .1 .1 .0))
+round-requires-2 c κs = (rw (c .before .before .if1 .left) at (c .before .before .before .before .before .before .pre .0), search needs)
 
 same-length-3 : tie.Need-same-length-3
 same-length-3 c = search needs
@@ -32,9 +26,7 @@ same-length-4 : tie.Need-same-length-4
 same-length-4 c = search needs
 
 returns-2 : tie.Need-returns-2
-returns-2 c =
-    rw (c .before .before .before .before .if1 .left)
-    (record { kept = refl; turned = c .before .round2 .ensures })
+returns-2 c = rw (c .before .before .before .before .if1 .left) (record { kept = refl; turned = c .before .round2 .ensures })
 
 pub step-spec : {M : Type 1} → statement M
 step-spec =

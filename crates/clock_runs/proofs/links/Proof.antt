@@ -18,6 +18,9 @@ loop-holds c = search needs
 sub-to : tie.Need-sub-to Inv-loop μ-loop
 sub-to c = search needs
 
+cast-to : tie.Need-cast-to Inv-loop μ-loop
+cast-to c = search needs
+
 mul-to : tie.Need-mul-to Inv-loop μ-loop
 mul-to c = search needs
 
@@ -47,6 +50,7 @@ links-spec =
     μ-loop
     loop-holds
     sub-to
+    cast-to
     mul-to
     slice-write-to
     add-i

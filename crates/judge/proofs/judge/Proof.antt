@@ -1,12 +1,65 @@
--- `judge::judge` meets its contract.
+-- `judge::judge` meets its contract. Here the arrays' length is the paper's limit of records.
 use borrow.Author.Needs.{needs}
-use mathlib.Core.Path.{_≡_, sym, _∙_}
-use Rattle.judge.proofs.Choosing.{strict, lenient, no-choice}
+use Rattle.paper.specs.Answer.{most}
+use Rattle.judge.specs.Call.{inputs, ConcludedBy}
+use Rattle.judge.proofs.Concluding.{all-fit, with-places}
 use Rattle.judge.proofs.judge.Statement.{statement}
 use Rattle.judge.proofs.judge.Tie as tie
 
-check-requires : tie.Need-check-requires
-check-requires c κs = search needs
+empty-requires : tie.Need-empty-requires
+empty-requires c κs = search needs
+
+places-requires : tie.Need-places-requires
+places-requires c κs = search needs
+
+places-requires-2 : tie.Need-places-requires-2
+places-requires-2 c κs = search needs
+
+places-requires-3 : tie.Need-places-requires-3
+places-requires-3 c κs = search needs
+
+blanks-requires : tie.Need-blanks-requires
+blanks-requires c κs = search needs
+
+blanks-requires-2 : tie.Need-blanks-requires-2
+blanks-requires-2 c κs = search needs
+
+slice-aggregate-reach : tie.Need-slice-aggregate-reach
+slice-aggregate-reach c = search needs
+
+slice-aggregate-reach-2 : tie.Need-slice-aggregate-reach-2
+slice-aggregate-reach-2 c = search needs
+
+slice-aggregate-reach-3 : tie.Need-slice-aggregate-reach-3
+slice-aggregate-reach-3 c = search needs
+
+slice-aggregate-reach-4 : tie.Need-slice-aggregate-reach-4
+slice-aggregate-reach-4 c = search needs
+
+slice-aggregate-reach-5 : tie.Need-slice-aggregate-reach-5
+slice-aggregate-reach-5 c = search needs
+
+slice-aggregate-reach-6 : tie.Need-slice-aggregate-reach-6
+slice-aggregate-reach-6 c = search needs
+
+reach-requires : tie.Need-reach-requires
+reach-requires c κs = search needs
+
+slice-aggregate-conclude : tie.Need-slice-aggregate-conclude
+slice-aggregate-conclude c = search needs
+
+slice-aggregate-conclude-2 : tie.Need-slice-aggregate-conclude-2
+slice-aggregate-conclude-2 c = search needs
+
+conclude-requires : tie.Need-conclude-requires
+unfolding most
+conclude-requires c κs =
+    let reach = c .before .before .before .before .before .before .before .before .before .before in
+    let arrays = reach .before .before .before .before .before .before .before in
+    let a = arrays .before .before .before .before .before .before .before .before .before .args in
+    let fit = all-fit _ (arrays .before .before .before .before .before .empty .ensures) (arrays .before .before .before .before .places .ensures) (arrays .before .before .before .places2 .ensures) (arrays .before .before .places3 .ensures) (arrays .before .blanks .ensures) (arrays .blanks2 .ensures) in
+    let says = reach .reach .ensures .answers fit in
+    with-places (inputs (a .trace .now) (a .latencies .now) (a .asked) (a .times .now) (a .wanted) (a .room .now)) _ _ _ _ says (search needs)
 
 same-length : tie.Need-same-length
 same-length c = search needs
@@ -15,37 +68,35 @@ same-length-2 : tie.Need-same-length-2
 same-length-2 c = search needs
 
 returns : tie.Need-returns
-returns c = c .before .before .before .check .ensures ∙ strict _ _ _ _ _ _ (c .before .before .before .before .before .before .if1 .taken)
-
-check-requires-2 : tie.Need-check-requires-2
-check-requires-2 c κs = search needs
-
-same-length-3 : tie.Need-same-length-3
-same-length-3 c = search needs
-
-same-length-4 : tie.Need-same-length-4
-same-length-4 c = search needs
-
-returns-2 : tie.Need-returns-2
-returns-2 c = c .before .before .before .check2 .ensures ∙ lenient _ _ _ _ _ _ (c .before .before .before .before .before .before .if2 .taken)
-
-refused-requires : tie.Need-refused-requires
-refused-requires c κs = search needs
-
-returns-3 : tie.Need-returns-3
-returns-3 c = no-choice _ _ _ _ _ _ (c .before .before .if1 .left) (c .before .if2 .left) (c .refused .ensures)
+unfolding most ConcludedBy
+returns c =
+    let reach = c .before .before .before .before .before .before .before .before .before .before .before .before .before .before in
+    let arrays = reach .before .before .before .before .before .before .before in
+    let a = arrays .before .before .before .before .before .before .before .before .before .args in
+    let fit = all-fit _ (arrays .before .before .before .before .before .empty .ensures) (arrays .before .before .before .before .places .ensures) (arrays .before .before .before .places2 .ensures) (arrays .before .before .places3 .ensures) (arrays .before .blanks .ensures) (arrays .blanks2 .ensures) in
+    let says = reach .reach .ensures .answers fit in
+    c .before .before .before .conclude .ensures (a .latencies .now) (a .asked) _ says
 
 pub judge-spec : {M : Type 1} → statement M
 judge-spec =
     tie.close
     (tie.spec
-    check-requires
+    empty-requires
+    places-requires
+    places-requires-2
+    places-requires-3
+    blanks-requires
+    blanks-requires-2
+    slice-aggregate-reach
+    slice-aggregate-reach-2
+    slice-aggregate-reach-3
+    slice-aggregate-reach-4
+    slice-aggregate-reach-5
+    slice-aggregate-reach-6
+    reach-requires
+    slice-aggregate-conclude
+    slice-aggregate-conclude-2
+    conclude-requires
     same-length
     same-length-2
-    returns
-    check-requires-2
-    same-length-3
-    same-length-4
-    returns-2
-    refused-requires
-    returns-3)
+    returns)

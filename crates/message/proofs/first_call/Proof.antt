@@ -25,7 +25,7 @@ unfolding matchedOf
 loop-holds c = (omega arith, refl)
 
 call-at-requires : tie.Need-call-at-requires Inv-loop μ-loop
-call-at-requires c κs = (c .loop-test .taken, c .before .before .before .pre)
+call-at-requires c κs = (c .loop-test .taken, c .before .before .before .before .pre)
 
 enum-known-stop : tie.Need-enum-known-stop Inv-loop μ-loop
 enum-known-stop c = search needs

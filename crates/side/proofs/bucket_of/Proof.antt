@@ -4,8 +4,8 @@ use Rattle.side.proofs.Keys.{bucket-is}
 use Rattle.side.proofs.bucket_of.Statement.{statement}
 use Rattle.side.proofs.bucket_of.Tie as tie
 
-count-of-requires : tie.Need-count-of-requires
-count-of-requires c κs = search needs
+code-requires : tie.Need-code-requires
+code-requires c κs = search needs
 
 mul-result : tie.Need-mul-result
 mul-result c = search needs
@@ -22,10 +22,10 @@ add-result-2 c = search needs
 returns : tie.Need-returns
 returns c =
     record {
-      is = bucket-is (c .before .before .before .before .args .key) (c .before .before .count-of .ensures) (search needs);
+      is = bucket-is (c .before .before .before .before .args .key) (c .before .before .code .ensures) (search needs);
       low = search needs;
     }
 
 pub bucket-of-spec : {M : Type 1} → statement M
 bucket-of-spec =
-    tie.close (tie.spec count-of-requires mul-result add-result mul-result-2 add-result-2 returns)
+    tie.close (tie.spec code-requires mul-result add-result mul-result-2 add-result-2 returns)

@@ -28,23 +28,14 @@ same-length-3 c = search needs
 same-length-4 : tie.Need-same-length-4
 same-length-4 c = search needs
 
-same-length-5 : tie.Need-same-length-5
-same-length-5 c = search needs
-
 returns : tie.Need-returns
 returns c =
     let c₂ = c .before .before in
-    let settle = c₂ .settle .kept in
-    let settle′ = c₂ .settle .ensures in
-    let c₁₀ = c₂ .before .before .before .before .before .before .before .before in
-    let latencies-into = c₁₀ .latencies-into .ensures in
-    let c₁₄ = c₁₀ .before .before .before .before in
-    let befores-into = c₁₄ .befores-into .ensures in
-    let c₁₇ = c₁₄ .before .before .before in
-    let originals-into = c₁₇ .originals-into .ensures in
-    let c₂₃ = c₁₇ .before .before .before .before .before .before in
-    let pre = c₂₃ .pre in
-    engine-answers _ _ _ _ pre originals-into befores-into latencies-into _ _ (settle .1 .1 .1 .1 .0) _ settle′
+    let c₉ = c₂ .before .before .before .before .before .before .before in
+    let c₁₃ = c₉ .before .before .before .before in
+    let c₁₆ = c₁₃ .before .before .before in
+    let pre = c₁₆ .before .before .before .before .before .before .before .pre in
+    engine-answers _ _ _ _ pre (c₁₆ .originals-into .ensures) (c₁₃ .befores-into .ensures) (c₉ .latencies-into .ensures) _ _ _ (c₂ .settle .ensures)
 
 pub settle-with-spec : {M : Type 1} → statement M
 settle-with-spec =
@@ -58,5 +49,4 @@ settle-with-spec =
     same-length-2
     same-length-3
     same-length-4
-    same-length-5
     returns)

@@ -1,72 +1,53 @@
--- `store::entry_at` meets its contract: the numbers are read where `entryOf` reads them.
-use Prim.Native.Nat.{_*_}
+-- `store::entry_at` meets its contract, from those of the readers of its parts.
 use borrow.Author.Needs.{needs}
-use Rattle.store.proofs.Places.{entry-at, no-entry, an-entry}
+use Rattle.store.specs.Layout.{width}
+use Rattle.store.proofs.Places.{through, entry-is}
 use Rattle.store.proofs.entry_at.Statement.{statement}
 use Rattle.store.proofs.entry_at.Tie as tie
 
+line-at-requires : tie.Need-line-at-requires
+line-at-requires c κs = search needs
+
+time-at-requires : tie.Need-time-at-requires
+time-at-requires c κs = search needs
+
+processor-at-requires : tie.Need-processor-at-requires
+processor-at-requires c κs = search needs
+
+whole-requires : tie.Need-whole-requires
+unfolding width
+whole-requires c κs = search needs
+
+whole-requires-2 : tie.Need-whole-requires-2
+unfolding width
+whole-requires-2 c κs = search needs
+
+values-at-requires : tie.Need-values-at-requires
+values-at-requires c κs = search needs
+
+role-at-requires : tie.Need-role-at-requires
+role-at-requires c κs = search needs
+
 returns : tie.Need-returns
-returns c = no-entry _ _ (c .if1 .taken)
-
-mul-at : tie.Need-mul-at
-mul-at c = search needs
-
-add-count-at : tie.Need-add-count-at
-add-count-at c = search needs
-
-count-at-requires : tie.Need-count-at-requires
-count-at-requires c κs = search needs
-
-add-count-at-2 : tie.Need-add-count-at-2
-add-count-at-2 c = search needs
-
-count-at-requires-2 : tie.Need-count-at-requires-2
-count-at-requires-2 c κs = search needs
-
-add-count-at-3 : tie.Need-add-count-at-3
-add-count-at-3 c = search needs
-
-count-at-requires-3 : tie.Need-count-at-requires-3
-count-at-requires-3 c κs = search needs
-
-message-at-requires : tie.Need-message-at-requires
-message-at-requires c κs = search needs
-
-role-from-requires : tie.Need-role-from-requires
-role-from-requires c κs = search needs
-
-mul-t10 : tie.Need-mul-t10
-mul-t10 c = search needs
-
-shared-slice-copy-out-t15 : tie.Need-shared-slice-copy-out-t15
-shared-slice-copy-out-t15 c = search needs
-
-returns-2 : tie.Need-returns-2
-returns-2 c =
-    let a = c .before .before .before .before .before .before .before .args in
-    an-entry (a .store .now) (a .i) _ (search needs)
-    (entry-at (a .store .now) (a .i * 7) _ _ _ _ _ _
-    (c .before .before .before .before .before .count-at .ensures)
-    (c .before .before .before .before .count-at2 .ensures)
-    (c .before .before .before .count-at3 .ensures)
-    (c .before .before .message-at .ensures)
-    (c .before .role-from .ensures)
-    (search needs))
+returns c =
+    let c₃ = c .before .before .before in
+    entry-is _ _ (c₃ .before .before .before .line-at .ensures)
+    (through (c₃ .before .before .time-at .ensures) (search needs))
+    (c₃ .before .processor-at .ensures)
+    (through (c₃ .whole .ensures) (search needs))
+    (through (c .before .before .whole2 .ensures) (search needs))
+    (c .before .values-at .ensures)
+    (c .role-at .ensures)
 
 pub entry-at-spec : {M : Type 1} → statement M
 entry-at-spec =
     tie.close
     (tie.spec
-    returns
-    mul-at
-    add-count-at
-    count-at-requires
-    add-count-at-2
-    count-at-requires-2
-    add-count-at-3
-    count-at-requires-3
-    message-at-requires
-    role-from-requires
-    mul-t10
-    shared-slice-copy-out-t15
-    returns-2)
+    line-at-requires
+    time-at-requires
+    processor-at-requires
+    whole-requires
+    whole-requires-2
+    values-at-requires
+    role-at-requires
+    returns)

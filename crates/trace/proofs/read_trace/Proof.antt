@@ -1,6 +1,6 @@
 -- `trace::read_trace` meets its contract. What is left to read gives, with the records put so far, the whole reading.
 use Prim.Native.Nat.{_-_}
-use mathlib.Core.Path.{_≡_, refl, sym, ap, _∙_}
+use mathlib.Core.Path.{_∙_}
 use native.Mathlib.Omega.{arith}
 use borrow.Author.Needs.{needs}
 use lib.ListN.{length}
@@ -16,9 +16,12 @@ Inv-loop choice s store₀ most last₀ listed₀ passed₀ at₀ n₀ store las
 abbrev μ-loop : tie.MeasureT-loop
 μ-loop choice s store₀ most last₀ listed₀ passed₀ at₀ n₀ store last listed passed at n = length s - at
 
+capacity-requires : tie.Need-capacity-requires Inv-loop μ-loop
+capacity-requires c κs = search needs
+
 loop-holds : tie.Need-loop-holds Inv-loop μ-loop
 unfolding start
-loop-holds c = going-start _ _ _ _ refl
+loop-holds c = going-start _ _ _ _ (c .capacity .ensures)
 
 find-requires : tie.Need-find-requires Inv-loop μ-loop
 find-requires c κs = search needs
@@ -153,18 +156,18 @@ put-requires c κs = search needs
 
 mul-last : tie.Need-mul-last Inv-loop μ-loop
 mul-last c =
-    let c₉ = c .before .before .before .before .before .before .before .before .before in
-    let r = c₉ .r .given .1 in
-    let c₁₁ = c₉ .before .before in
-    let read-line = c₁₁ .read-line .ensures in
+    let c₁₀ = c .before .before .before .before .before .before .before .before .before .before in
+    let r = c₁₀ .r .given .1 in
+    let c₁₂ = c₁₀ .before .before in
+    let read-line = c₁₂ .read-line .ensures in
     omega (arith, processor-in _ _ _ read-line _ r)
 
 array-set-from-last : tie.Need-array-set-from-last Inv-loop μ-loop
 array-set-from-last c =
-    let c₉ = c .before .before .before .before .before .before .before .before .before in
-    let r = c₉ .r .given .1 in
-    let c₁₁ = c₉ .before .before in
-    let read-line = c₁₁ .read-line .ensures in
+    let c₁₀ = c .before .before .before .before .before .before .before .before .before .before in
+    let r = c₁₀ .r .given .1 in
+    let c₁₂ = c₁₀ .before .before in
+    let read-line = c₁₂ .read-line .ensures in
     omega (arith, processor-in _ _ _ read-line _ r)
 
 add-listed : tie.Need-add-listed Inv-loop μ-loop
@@ -174,7 +177,31 @@ loop-less-2 : tie.Need-loop-less-2 Inv-loop μ-loop
 loop-less-2 c = search needs
 
 loop-again-2 : tie.Need-loop-again-2 Inv-loop μ-loop
-loop-again-2 c = line-listed (c .before .before .before .before .before .before .before .before .before .before .before .before .before .before .before .before .loop .inv) _ (c .before .before .before .before .before .before .before .before .before .before .before .before .before .before .before .loop-test .taken) (c .before .before .before .before .before .before .before .before .before .before .before .before .before .before .find .ensures .0) (c .before .before .before .before .before .before .before .before .before .before .before .before .before .if1 .left) (c .before .before .before .before .before .before .before .before .before .before .before .before .before .before .find .ensures .1) _ (c .before .before .before .before .before .before .before .before .before .before .before .read-line .ensures) _ (c .before .before .before .before .before .before .before .before .before .r .given .1) _ (c .before .before .before .before .before .earlier .ensures ∙ search needs) (c .before .before .before .before .if2 .left) (c .before .before .before .if3 .left) _ (c .before .put .ensures) (c .before .put .kept .0) (search needs)
+loop-again-2 c =
+    let listed =
+    let c₂ = c .before .before in
+    let put = c₂ .put in
+    let c₄ = c₂ .before .before in
+    let if3 = c₄ .if3 .left in
+    let c₅ = c₄ .before in
+    let if2 = c₅ .if2 .left in
+    let earlier = c₅ .before .earlier .ensures in
+    let c₁₀ = c₅ .before .before .before .before .before in
+    let r = c₁₀ .r .given .1 in
+    let c₁₂ = c₁₀ .before .before in
+    let read-line = c₁₂ .read-line .ensures in
+    let c₁₄ = c₁₂ .before .before in
+    let if1 = c₁₄ .if1 .left in
+    let c₁₅ = c₁₄ .before in
+    let find = c₁₅ .find .ensures in
+    let c₁₆ = c₁₅ .before in
+    let loop-test = c₁₆ .loop-test .taken in
+    let inv = c₁₆ .before .loop .inv in
+    line-listed inv _ loop-test (find .0) if1 (find .1) _ read-line _ r _
+    in
+    let c₂ = c .before .before in
+    let c₅ = c₂ .before .before .before in
+    listed (c₅ .before .earlier .ensures ∙ search needs) (c₅ .if2 .left) (c₂ .before .before .if3 .left) _ (c₂ .put .ensures) (c₂ .put .kept .0) _ (search needs)
 
 same-length-5 : tie.Need-same-length-5 Inv-loop μ-loop
 same-length-5 c = c .before .loop .inv .long
@@ -188,6 +215,7 @@ read-trace-spec =
     (tie.spec
     Inv-loop
     μ-loop
+    capacity-requires
     loop-holds
     find-requires
     same-length

@@ -1,21 +1,29 @@
 -- `waits::befores_into` meets its contract. The invariant: the first i places are there, and of each processor its last place.
 use Prim.Native.Nat.{_-_, _<_}
+use mathlib.Core.Path.{sym, _∙_}
 use native.Mathlib.Omega.{arith}
 use borrow.Author.Needs.{needs}
 use lib.ListN.{length}
 use Rattle.store.specs.Layout.{entriesIn}
 use Rattle.waits.specs.Tables.{beforeAt, beforesOf}
+use Rattle.waits.proofs.Outcomes.{befores-few, befores-kept}
 use Rattle.waits.proofs.Filling.{Filling, fill-none, fill-more, fill-all}
 use Rattle.waits.proofs.Last.{Lasts, last-none, last-before, last-more}
 use Rattle.waits.proofs.befores_into.Statement.{statement}
 use Rattle.waits.proofs.befores_into.Tie as tie
 
 abbrev Inv-loop : tie.InvT-loop
-Inv-loop store out₀ last₀ i₀ out last i =
+Inv-loop store out₀ none last₀ i₀ out last i =
     Filling 0 (beforeAt (entriesIn store (length out₀))) (length out₀) out i × Lasts (entriesIn store (length out₀)) i last
 
 abbrev μ-loop : tie.MeasureT-loop
-μ-loop store out₀ last₀ i₀ out last i = length out₀ - i
+μ-loop store out₀ none last₀ i₀ out last i = length out₀ - i
+
+returns : tie.Need-returns Inv-loop μ-loop
+returns c = sym (befores-kept _ _ (c .if1 .taken))
+
+cast-none : tie.Need-cast-none Inv-loop μ-loop
+cast-none c = search needs
 
 for-each-requires : tie.Need-for-each-requires Inv-loop μ-loop
 for-each-requires c κs = search needs
@@ -38,6 +46,9 @@ mul-out-2 c = search needs
 slice-write-out : tie.Need-slice-write-out Inv-loop μ-loop
 slice-write-out c = search needs
 
+cast-last : tie.Need-cast-last Inv-loop μ-loop
+cast-last c = search needs
+
 mul-last : tie.Need-mul-last Inv-loop μ-loop
 mul-last c = search needs
 
@@ -53,16 +64,18 @@ loop-less c = search needs
 loop-again : tie.Need-loop-again Inv-loop μ-loop
 loop-again c =
     let at = c .before .before .loop in
-    let i< : at .i < length (c .before .before .before .before .before .args .out .now) = omega arith in
+    let i< : at .i < length (c .before .before .before .before .before .before .before .args .out .now) = omega arith in
     let on = c .processor-at .ensures in
     (fill-more _ _ (at .inv .0) _ (c .before .loop-test .taken) (last-before _ _ (at .inv .1) i< on), last-more _ _ (at .inv .1) i< on)
 
 same-length : tie.Need-same-length Inv-loop μ-loop
 same-length c = search needs
 
-returns : tie.Need-returns Inv-loop μ-loop
+returns-2 : tie.Need-returns-2 Inv-loop μ-loop
 unfolding beforesOf
-returns c = fill-all _ _ (c .before .loop .inv .0) _ (c .loop-test .left)
+returns-2 c =
+    fill-all _ _ (c .before .loop .inv .0) _ (c .loop-test .left)
+    ∙ sym (befores-few _ _ (c .before .before .before .if1 .left))
 
 pub befores-into-spec : {M : Type 1} → statement M
 befores-into-spec =
@@ -70,6 +83,8 @@ befores-into-spec =
     (tie.spec
     Inv-loop
     μ-loop
+    returns
+    cast-none
     for-each-requires
     loop-holds
     processor-at-requires
@@ -77,10 +92,11 @@ befores-into-spec =
     array-read-out
     mul-out-2
     slice-write-out
+    cast-last
     mul-last
     array-write-last
     add-i
     loop-less
     loop-again
     same-length
-    returns)
+    returns-2)

@@ -1,6 +1,6 @@
 -- `line::listed::listed_line` meets its contract.
 use borrow.Author.Needs.{needs}
-use mathlib.Core.Path.{_≡_, refl, sym, ap, _∙_}
+use mathlib.Core.Path.{_∙_}
 use Rattle.line.proofs.Parts.{no-place, good-place}
 use Rattle.line.proofs.listed.listed_line.Statement.{statement}
 use Rattle.line.proofs.listed.listed_line.Tie as tie
@@ -27,7 +27,13 @@ with-data-requires : tie.Need-with-data-requires
 with-data-requires c κs = search needs
 
 returns-2 : tie.Need-returns-2
-returns-2 c = c .with-data .ensures ∙ good-place _ _ _ (c .before .before .before .before .before .before .before .before .before .place-of .ensures ∙ search needs) _ (c .before .before .before .before .before .before .before .processor .given .1) _ (search needs) (search needs) (search needs) (c .before .before .part-of .ensures) (c .before .before .before .before .before .read-data .ensures)
+returns-2 c =
+    let part = c .before .part-of .ensures in
+    let c₄ = c .before .before .before .before in
+    let values = c₄ .read-data .ensures in
+    let processor = c₄ .before .before .processor .given .1 in
+    let place = c₄ .before .before .before .before .place-of .ensures in
+    c .with-data .ensures ∙ good-place _ _ _ (place ∙ search needs) _ processor _ (search needs) (search needs) part values
 
 pub listed-line-spec : {M : Type 1} → statement M
 listed-line-spec =

@@ -1,7 +1,6 @@
 -- `line::listed::with_data` meets its contract.
 use borrow.Author.Needs.{needs}
-use mathlib.Core.Path.{_≡_, refl, sym, ap, _∙_}
-use mir.Facts.{toZ-ofZ}
+use mathlib.Core.Path.{_∙_}
 use Rattle.paper.specs.Line.{withData}
 use Rattle.line.proofs.Parts.{with-three, with-others}
 use Rattle.line.proofs.listed.with_data.Statement.{statement}
@@ -33,10 +32,10 @@ unfolding withData
 returns c = (cc)
 
 returns-2 : tie.Need-returns-2
-returns-2 c = c .with-role .ensures ∙ with-three _ _ _ (toZ-ofZ (c .before .before .before .before .fits .time)) _ (c .before .role-of .ensures) (c .before .before .enum-told2 .given .1)
+returns-2 c = c .with-role .ensures ∙ with-three _ _ _ _ _ (c .before .role-of .ensures) (c .before .before .enum-told2 .given .1)
 
 returns-3 : tie.Need-returns-3
-returns-3 c = c .with-role2 .ensures ∙ with-others _ _ _ (toZ-ofZ (c .before .before .before .before .fits .time)) _ (c .before .role-of2 .ensures) (c .before .before .enum-told3 .given .1)
+returns-3 c = c .with-role2 .ensures ∙ with-others _ _ _ _ _ (c .before .role-of2 .ensures) (c .before .before .enum-told3 .given .1)
 
 pub with-data-spec : {M : Type 1} → statement M
 with-data-spec =

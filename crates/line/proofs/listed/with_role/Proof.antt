@@ -1,7 +1,6 @@
 -- `line::listed::with_role` meets its contract.
 use borrow.Author.Needs.{needs}
-use mathlib.Core.Path.{_≡_, refl, sym, ap, _∙_}
-use mir.Facts.{toZ-ofZ}
+use mathlib.Core.Path.{ap}
 use Rattle.line.specs.Sorting.{castOf}
 use Rattle.line.proofs.Parts.{listed-with, not-with}
 use Rattle.line.proofs.listed.with_role.Statement.{statement}
@@ -15,11 +14,11 @@ enum-told c = search needs
 
 returns : tie.Need-returns
 unfolding castOf
-returns c = listed-with _ _ _ (toZ-ofZ (c .before .before .before .fits .time)) (ap castOf (c .before .cast .given .1))
+returns c = listed-with _ _ _ _ _ (search needs) (search needs) (search needs) (ap castOf (c .before .before .cast .given .1))
 
 returns-2 : tie.Need-returns-2
 unfolding castOf
-returns-2 c = not-with _ _ _ (ap castOf (c .enum-told .given .1))
+returns-2 c = not-with _ _ _ _ (ap castOf (c .enum-told .given .1))
 
 pub with-role-spec : {M : Type 1} → statement M
 with-role-spec = tie.close (tie.spec enum-known-cast enum-told returns returns-2)

@@ -1,27 +1,85 @@
--- The bytes of the lines so far are stored at the start of the room.
+-- The bytes up to the last stamp are stored at the start of the room.
 use Prim.Native.Nat.{_-_}
-use mathlib.Core.Path.{_∙_}
+use mathlib.Core.Path.{refl, _∙_}
 use native.Mathlib.Omega.{arith}
-use borrow.Author.Needs.{needs}
+use borrow.Author.Needs.{needs, sfits-of}
 use lib.ListN.{length}
-use Rattle.store.specs.Layout.{entriesIn}
-use Rattle.writing.specs.Outcome.{bytesFor}
-use Rattle.writing.proofs.Going.{used-one, shown-next}
-use Rattle.writing.proofs.Filling.{Filling, filling-start, as-long, full-at-end, room-for-last, full-unended, room-for-line, line-filled}
+use mir.Facts.{toZ-ofZ}
+use Rattle.writing.proofs.Filling.{Filling, filling-start, as-long, stamp-held, run-fits, run-filled, last-fits, filled}
 use Rattle.writing.proofs.fill.fill.Statement.{statement}
 use Rattle.writing.proofs.fill.fill.Tie as tie
 
 abbrev Inv-loop : tie.InvT-loop
-Inv-loop s store times room₀ at₀ n₀ k₀ to₀ room at n k to = Filling s (entriesIn store (length times)) times room₀ room at n k to
+Inv-loop s store times room₀ from₀ to₀ k₀ room from to k = Filling s store times room₀ room from to k
 
 abbrev μ-loop : tie.MeasureT-loop
-μ-loop s store times room₀ at₀ n₀ k₀ to₀ room at n k to = length s - at
+μ-loop s store times room₀ from₀ to₀ k₀ room from to k = length times - k
+
+next-moved-requires : tie.Need-next-moved-requires Inv-loop μ-loop
+next-moved-requires c κs = search needs
 
 loop-holds : tie.Need-loop-holds Inv-loop μ-loop
-loop-holds c = filling-start _ _ _ _
+loop-holds c = filling-start _ _ (c .next-moved .ensures)
 
-find-requires : tie.Need-find-requires Inv-loop μ-loop
-find-requires c κs = search needs
+stamp-of-requires : tie.Need-stamp-of-requires Inv-loop μ-loop
+stamp-of-requires c κs = search needs
+
+add-end : tie.Need-add-end Inv-loop μ-loop
+add-end c =
+    let f = c .before in
+    let l = f .before .before in
+    let p = stamp-held (l .loop .inv) (l .before .before .before .before .before .pre) (f .before .loop-test .taken) (f .stamp-of .ensures) refl in
+    omega arith
+
+sub-put-run : tie.Need-sub-put-run Inv-loop μ-loop
+sub-put-run c =
+    let f = c .before .before in
+    let l = f .before .before in
+    let p = stamp-held (l .loop .inv) (l .before .before .before .before .before .pre) (f .before .loop-test .taken) (f .stamp-of .ensures) refl in
+    omega arith
+
+part-put-run-start : tie.Need-part-put-run-start Inv-loop μ-loop
+part-put-run-start c =
+    let f = c .before .before in
+    let l = f .before .before in
+    let p = stamp-held (l .loop .inv) (l .before .before .before .before .before .pre) (f .before .loop-test .taken) (f .stamp-of .ensures) refl in
+    omega arith
+
+part-put-run-end : tie.Need-part-put-run-end Inv-loop μ-loop
+part-put-run-end c =
+    let f = c .before .before in
+    let l = f .before .before in
+    let p = stamp-held (l .loop .inv) (l .before .before .before .before .before .pre) (f .before .loop-test .taken) (f .stamp-of .ensures) refl in
+    omega arith
+
+mul-put-run : tie.Need-mul-put-run Inv-loop μ-loop
+mul-put-run c = search needs
+
+shared-slice-copy-out-put-run : tie.Need-shared-slice-copy-out-put-run Inv-loop μ-loop
+shared-slice-copy-out-put-run c = search needs
+
+put-run-requires : tie.Need-put-run-requires Inv-loop μ-loop
+put-run-requires c κs =
+    let f = c .before .before .before .before in
+    let l = f .before .before in
+    run-fits (l .loop .inv) (l .before .before .before .before .before .pre) (f .before .loop-test .taken) (f .stamp-of .ensures) (toZ-ofZ (sfits-of (c .put-run-arg3 .given)))
+
+add-next-moved : tie.Need-add-next-moved Inv-loop μ-loop
+add-next-moved c = search needs
+
+next-moved-requires-2 : tie.Need-next-moved-requires-2 Inv-loop μ-loop
+next-moved-requires-2 c κs = search needs
+
+loop-less : tie.Need-loop-less Inv-loop μ-loop
+loop-less c = search needs
+
+loop-again : tie.Need-loop-again Inv-loop μ-loop
+loop-again c =
+    let r = c .before .before .before in
+    let f = r .before .before .before .before .before in
+    let l = f .before .before in
+    run-filled (l .loop .inv) (l .before .before .before .before .before .pre) (f .before .loop-test .taken) (f .stamp-of .ensures) (toZ-ofZ (sfits-of (r .before .put-run-arg3 .given)))
+    (r .put-run .ensures) (c .next-moved2 .ensures)
 
 sub-put : tie.Need-sub-put Inv-loop μ-loop
 sub-put c = search needs
@@ -33,82 +91,19 @@ part-put-end : tie.Need-part-put-end Inv-loop μ-loop
 part-put-end c = search needs
 
 put-requires : tie.Need-put-requires Inv-loop μ-loop
-unfolding bytesFor
 put-requires c κs =
-    let f = c .before .before .before in
-    let l = f .before .before in
-    room-for-last (l .loop .inv) _ (f .before .loop-test .taken) (f .find .ensures .0) (l .before .before .before .pre .1) (c .before .before .if1 .taken)
+    let l = c .before .before .before in
+    last-fits (l .loop .inv) (l .before .before .before .before .before .pre) (c .before .before .loop-test .left)
 
 same-length : tie.Need-same-length Inv-loop μ-loop
 same-length c =
-    let l = c .before .before .before .before .before .before .before .before .loop in
-    c .before .before .put .kept .0 ∙ as-long (l .inv)
+    let l = c .before .before .before .before .before .before in
+    c .before .before .put .kept .0 ∙ as-long (l .loop .inv) (l .before .before .before .before .before .pre)
 
 returns : tie.Need-returns Inv-loop μ-loop
-unfolding bytesFor
 returns c =
-    let f = c .before .before .before .before .before .before in
-    let l = f .before .before in
-    full-unended (l .loop .inv) _ (f .before .loop-test .taken) (f .find .ensures .0) (l .before .before .before .pre .1)
-    (c .before .before .before .before .before .if1 .taken) (c .before .before .put .ensures)
-
-stamp-for-requires : tie.Need-stamp-for-requires Inv-loop μ-loop
-stamp-for-requires c κs = search needs
-
-met-requires : tie.Need-met-requires Inv-loop μ-loop
-met-requires c κs = search needs
-
-sub-put-line : tie.Need-sub-put-line Inv-loop μ-loop
-sub-put-line c = search needs
-
-part-put-line-start : tie.Need-part-put-line-start Inv-loop μ-loop
-part-put-line-start c = search needs
-
-part-put-line-end : tie.Need-part-put-line-end Inv-loop μ-loop
-part-put-line-end c = search needs
-
-put-line-requires : tie.Need-put-line-requires Inv-loop μ-loop
-unfolding bytesFor
-put-line-requires c κs =
-    let s = c .before .before .before in
-    let f = s .before .before in
-    let l = f .before .before in
-    let p = l .before .before .before .pre in (
-      shown-next (l .loop .inv .going) _ (s .stamp-for .ensures) (p .0),
-      room-for-line (l .loop .inv) _ (f .before .loop-test .taken) (f .find .ensures .0) (p .1) (s .before .if1 .left) (f .find .ensures .1) _
-          (s .stamp-for .ensures),
-    )
-
-add-k : tie.Need-add-k Inv-loop μ-loop
-add-k c =
-    let m = c .before .before .before .before .before in
-    let l = m .before .before .before .before .before .loop in
-    omega (arith, used-one _ (m .met .ensures), l .inv .going .met)
-
-add-n : tie.Need-add-n Inv-loop μ-loop
-add-n c = search needs
-
-add-at : tie.Need-add-at Inv-loop μ-loop
-add-at c = search needs
-
-loop-less : tie.Need-loop-less Inv-loop μ-loop
-loop-less c = search needs
-
-loop-again : tie.Need-loop-again Inv-loop μ-loop
-unfolding bytesFor
-loop-again c =
-    let m = c .before .before .before .before .before in
-    let f = m .before .before .before in
-    let l = f .before .before in
-    line-filled (l .loop .inv) _ (f .before .loop-test .taken) (f .find .ensures .0) (l .before .before .before .pre .1)
-    (m .before .before .if1 .left) (f .find .ensures .1) _ (m .before .stamp-for .ensures) (m .met .ensures) (c .before .before .put-line .ensures)
-
-same-length-2 : tie.Need-same-length-2 Inv-loop μ-loop
-same-length-2 c = as-long (c .before .loop .inv)
-
-returns-2 : tie.Need-returns-2 Inv-loop μ-loop
-unfolding bytesFor
-returns-2 c = full-at-end (c .before .loop .inv) (c .loop-test .left)
+    let l = c .before .before .before .before .before .before in
+    filled (l .loop .inv) (l .before .before .before .before .before .pre) (c .before .before .before .before .before .loop-test .left) (c .before .before .put .ensures)
 
 pub fill-spec : {M : Type 1} → statement M
 fill-spec =
@@ -116,24 +111,23 @@ fill-spec =
     (tie.spec
     Inv-loop
     μ-loop
+    next-moved-requires
     loop-holds
-    find-requires
+    stamp-of-requires
+    add-end
+    sub-put-run
+    part-put-run-start
+    part-put-run-end
+    mul-put-run
+    shared-slice-copy-out-put-run
+    put-run-requires
+    add-next-moved
+    next-moved-requires-2
+    loop-less
+    loop-again
     sub-put
     part-put-start
     part-put-end
     put-requires
     same-length
-    returns
-    stamp-for-requires
-    met-requires
-    sub-put-line
-    part-put-line-start
-    part-put-line-end
-    put-line-requires
-    add-k
-    add-n
-    add-at
-    loop-less
-    loop-again
-    same-length-2
-    returns-2)
+    returns)

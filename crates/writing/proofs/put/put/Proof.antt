@@ -1,4 +1,4 @@
---
+-- The part of the room from `at` on, copied into.
 use borrow.Author.Needs.{needs}
 use Rattle.writing.proofs.Puts.{copied}
 use Rattle.writing.proofs.put.put.Statement.{statement}

@@ -1,0 +1,69 @@
+-- How far a call reaches: what `reach` comes to where a check fails, and where all of them pass. Whatever a call ends with, it begins
+-- with these laws.
+use Prim.Native.Nat.{ℕ}
+use mathlib.Core.Path.{_≡_, ap, _∙_}
+use mathlib.Core.Option.{none}
+use mathlib.Core.List.{List}
+use lib.IntN.{ℤ}
+use Rattle.paper.specs.Matching.{matchedOf}
+use Rattle.paper.specs.Clock.{impossible, settled, settle}
+use Rattle.paper.specs.Answer.{Inputs, given, heard, Found, stopped, found, reach, onChoice, onRead, onMatched, onSettled}
+use Rattle.paper.specs.declared.Choice.{Choice}
+use Rattle.paper.specs.declared.Fault.{Fault}
+use Rattle.paper.specs.declared.Fault.the-variants as Fault
+use Rattle.demands.specs.Steps.{Chosen, RightLengths, LowLatencies, ShortTrace, Begun, reading, entries, Read, Matched, waits}
+use Rattle.demands.specs.Table.{BadLine, BadReceive}
+use Rattle.demands.proofs.Tests.{not-told, lengths-tell, lows-tell, short-tells}
+
+-- what a call has found that settles so
+abbrev pub foundBy : Inputs → Choice → ℕ → List ℤ → Found
+foundBy i choice rounds times = record { choice = choice; reading = reading i choice; rounds = rounds; times = times }
+
+module _ (i : Inputs) where
+  pub reach-choice : heard (i .asked) ≡ none → reach (given i) ≡ stopped Fault.BadChoice 0
+  unfolding reach onChoice
+  reach-choice e = rw e
+
+  module _ (choice : Choice) (chosen : Chosen i choice) where
+    pub reach-length : ¬ RightLengths i → reach (given i) ≡ stopped Fault.WrongLength 0
+    unfolding reach onChoice
+    reach-length l = rw (chosen, not-told (lengths-tell i) l)
+
+    module _ (lengths : RightLengths i) where
+      pub reach-latency : ¬ LowLatencies i → reach (given i) ≡ stopped Fault.HighLatency 0
+      unfolding reach onChoice
+      reach-latency h = rw (chosen, lengths-tell i .told lengths, not-told (lows-tell i) h)
+
+      pub reach-long : LowLatencies i → ¬ ShortTrace i → reach (given i) ≡ stopped Fault.LongTrace 0
+      unfolding reach onChoice
+      reach-long low h = rw (chosen, lengths-tell i .told lengths, lows-tell i .told low, not-told (short-tells i) h)
+
+  module _ (choice : Choice) where
+    reach-begun : Begun i choice → reach (given i) ≡ onRead (given i) choice (reading i choice) (reading i choice .stop)
+    unfolding reach onChoice
+    reach-begun b = rw (b .chosen, lengths-tell i .told (b .lengths), lows-tell i .told (b .low), short-tells i .told (b .short))
+
+    reach-read : Read i choice → reach (given i) ≡ onMatched (given i) choice (reading i choice) (matchedOf (entries i choice))
+    unfolding onRead
+    reach-read r = reach-begun (r .begun) ∙ ap (onRead (given i) choice (reading i choice)) (r .whole)
+
+    reach-matched : Matched i choice → reach (given i) ≡ onSettled choice (reading i choice) (settle (waits i choice))
+    unfolding onMatched
+    reach-matched m = reach-read (m .read) ∙ ap (onMatched (given i) choice (reading i choice)) (m .matches)
+
+    pub reach-times : Matched i choice → settle (waits i choice) ≡ impossible → reach (given i) ≡ stopped Fault.NoTimes 0
+    unfolding onSettled
+    reach-times m e = reach-matched m ∙ ap (onSettled choice (reading i choice)) e
+
+    pub reach-found : Matched i choice → (rounds : ℕ) (times : List ℤ) → settle (waits i choice) ≡ settled rounds times
+        → reach (given i) ≡ found (foundBy i choice rounds times)
+    unfolding onSettled
+    reach-found m rounds times e = reach-matched m ∙ ap (onSettled choice (reading i choice)) e
+
+  pub reach-line : (fault : Fault) (n : ℕ) → BadLine i fault n → reach (given i) ≡ stopped fault n
+  unfolding onRead
+  reach-line fault n b = reach-begun (b .choice) (b .begun) ∙ ap (onRead (given i) (b .choice) (reading i (b .choice))) (b .stops)
+
+  pub reach-receive : (fault : Fault) (n : ℕ) → BadReceive i fault n → reach (given i) ≡ stopped fault n
+  unfolding onMatched
+  reach-receive fault n b = reach-read (b .choice) (b .read) ∙ ap (onMatched (given i) (b .choice) (reading i (b .choice))) (b .calls)

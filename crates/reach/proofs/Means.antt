@@ -1,0 +1,73 @@
+-- What a caller learns of a call that found its times.
+use Prim.Native.Nat.{ℕ}
+use mathlib.Core.Path.{_≡_, refl}
+use mathlib.Core.Bool.{Bool, true, false, cond}
+use mathlib.Core.Option.{Option, none, some}
+use native.Mathlib.Omega.{arith}
+use lib.ListN.{length}
+use lib.Dec.{leb}
+use Rattle.paper.specs.Answer.{Given, Found, stopped, found, most, longest, heard, rightLengths, lowLatencies, onSettled, onMatched, onRead, onChoice, reach}
+use Rattle.paper.specs.Clock.{Settled, impossible, settled, settle}
+use Rattle.paper.specs.Matching.{matchedOf, waitsOf}
+use Rattle.paper.specs.Reading.{Reading, readOf}
+use Rattle.paper.specs.declared.Choice.{Choice}
+use Rattle.paper.specs.declared.Fault.{Fault}
+use Rattle.paper.specs.declared.Fault.the-variants as Fault
+use Rattle.paper.specs.declared.Stop.{Stop}
+use Rattle.paper.specs.declared.Stop.the-variants.{End, At}
+
+-- the checks that it passed, and what was found
+pub record Means (g : Given) (f : Found) : Type 0 where
+  pub lengths : rightLengths g ≡ true
+  pub reading : f .reading ≡ readOf (f .choice) (most g) (g .trace)
+  pub whole : f .reading .stop ≡ End
+  pub matches : matchedOf (f .reading .entries) ≡ End
+  pub settles : settle (waitsOf (g .latencies) (f .reading .entries)) ≡ settled (f .rounds) (f .times)
+
+-- a stop is no find
+never : {A : Type 0} {fault : Fault} {line : ℕ} {f : Found} → stopped fault line ≡ found f → A
+never e = absurd (let z : _≡_ {A = ℕ} 0 1 = cc in omega arith)
+
+module _ (g : Given) (f : Found) where
+  abbrev r : Choice → Reading
+  r choice = readOf choice (most g) (g .trace)
+
+  on-settled : (choice : Choice) (r : Reading) (x : Settled) → onSettled choice r x ≡ found f
+      → (f ≡ record { choice = choice; reading = r; rounds = f .rounds; times = f .times }) × (x ≡ settled (f .rounds) (f .times))
+  unfolding onSettled
+  on-settled choice r impossible e = never e
+  on-settled choice r (settled rounds times) e =
+      let q : f ≡ record { choice = choice; reading = r; rounds = rounds; times = times } = cc in
+      (rw q, rw q)
+
+  module _ (lengths : rightLengths g ≡ true) (choice : Choice) where
+    on-matched : r choice .stop ≡ End → (x : Stop) → matchedOf (r choice .entries) ≡ x → onMatched g choice (r choice) x ≡ found f → Means g f
+    unfolding onMatched
+    on-matched whole (At fault line) p e = never e
+    on-matched whole End p e =
+        let (is, settles) = on-settled choice (r choice) (settle (waitsOf (g .latencies) (r choice .entries))) e in
+        rw is (record { lengths = lengths; reading = refl; whole = whole; matches = p; settles = settles })
+
+    on-read : (x : Stop) → r choice .stop ≡ x → onRead g choice (r choice) x ≡ found f → Means g f
+    unfolding onRead
+    on-read (At fault line) p e = never e
+    on-read End p e = on-matched p (matchedOf (r choice .entries)) refl e
+
+  on-choice : (h : Option Choice) → onChoice g h ≡ found f → Means g f
+  unfolding onChoice
+  on-choice none e = never e
+  on-choice (some choice) e = go (rightLengths g) (lowLatencies (g .latencies)) (leb (length (g .trace)) longest) refl e
+    where
+      go : (a b c : Bool) → rightLengths g ≡ a
+          → cond a
+          (cond b (cond c (onRead g choice (r choice) (r choice .stop)) (stopped Fault.LongTrace 0)) (stopped Fault.HighLatency 0))
+          (stopped Fault.WrongLength 0)
+          ≡ found f → Means g f
+      go false b c p e = never e
+      go true false c p e = never e
+      go true true false p e = never e
+      go true true true p e = on-read p choice (r choice .stop) refl e
+
+  pub found-means : reach g ≡ found f → Means g f
+  unfolding reach
+  found-means e = on-choice (heard (g .asked)) e

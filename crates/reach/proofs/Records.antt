@@ -1,0 +1,106 @@
+-- The lines read into the store, and the times of the records there: what the code's answers come to.
+use Prim.Native.Nat.{ℕ, _≤_, _<_, _^_}
+use mathlib.Core.Path.{_≡_, refl, sym, ap, _∙_}
+use mathlib.Core.List.{List}
+use native.Mathlib.Omega.{arith}
+use lib.ListN.{length, take}
+use lib.IntN.{ℤ}
+use Rattle.paper.specs.Answer.{Given, onRead, onMatched, onSettled}
+use Rattle.paper.specs.Matching.{entryAt, matchedOf}
+use Rattle.paper.specs.Reading.{Reading, readOf}
+use Rattle.paper.specs.declared.Choice.{Choice}
+use Rattle.paper.specs.declared.Fault.{Fault}
+use Rattle.paper.specs.declared.Stop.the-variants.{End, At}
+use Rattle.reading.specs.Starts.{startOf}
+use Rattle.reading.proofs.Starts.{start-within}
+use Rattle.store.specs.Layout.{capacity, entriesIn, startFrom}
+use Rattle.store.proofs.Laws.{capacity-stored, entries-stored, start-stored}
+use Rattle.trace.specs.Read.{ReadInto, answerOf}
+use Rattle.trace.specs.declared.Read.{Read}
+use Rattle.trace.proofs.Entries.{listed-many, listed-few, entries-small}
+use Rattle.solve.specs.Outcome.{solvedBy}
+use Rattle.solve.specs.declared.Solved.{Solved}
+use Rattle.solve.specs.declared.Solved.the-variants as Solved
+use Rattle.reach.specs.declared.Reached.{Reached}
+use Rattle.reach.specs.declared.Reached.the-variants.{Times, Refused, Misfit}
+use Rattle.reach.specs.Reach.{givenOf, reaches}
+use Rattle.reach.specs.Lines.{Sized, asReached, SettledBy, fromLines}
+
+-- a trace that was read into a store
+module _ (choice : Choice) (trace store₀ : List ℕ) (r : Read) (store : List ℕ) (into : ReadInto choice trace store₀ r store) where
+  abbrev whole : Reading
+  whole = readOf choice (capacity store₀) trace
+
+  stop-is : r .stop ≡ whole .stop
+  unfolding answerOf
+  stop-is = ap (λ (x : Read). x .stop) (into .answer)
+
+  listed-is : length (whole .entries) ≡ r .listed
+  unfolding answerOf
+  listed-is = sym (listed-many choice (capacity store₀) trace) ∙ sym (ap (λ (x : Read). x .listed) (into .answer))
+
+  passed-is : whole .state .passed ≡ r .passed
+  unfolding answerOf
+  passed-is = sym (ap (λ (x : Read). x .passed) (into .answer))
+
+  few : r .listed ≤ capacity store₀
+  few = rw listed-is at (listed-few choice (capacity store₀) trace)
+
+  few-stored : r .listed ≤ capacity store
+  few-stored = rw (into .holds, capacity-stored (startOf trace) (whole .entries) store₀ (listed-few choice (capacity store₀) trace)) few
+
+  -- slices made for as many records as the store are made for those that were read
+  pub ready : {sends before latency : List ℕ} {times spare : List ℤ} → Sized (capacity store₀) sends before latency times spare
+      → Sized (length sends) sends before latency times spare × ((r .listed ≤ length sends) × (r .listed ≤ capacity store))
+  ready z = (rw (z .all-sends) z, (rw (z .all-sends) few, few-stored))
+
+  -- "then line by line, the first bad line deciding"
+  pub line-refused : (fault : Fault) (line : ℕ) → r .stop ≡ At fault line → (latencies sends : List ℕ) (times : List ℤ)
+      → fromLines trace latencies choice whole (Refused fault line) store sends times
+  unfolding fromLines reaches onRead
+  line-refused fault line e latencies sends times asked places = rw (sym stop-is ∙ e)
+
+  module _ (short : length trace < 2 ^ 32) where
+    entries-are : entriesIn store (r .listed) ≡ whole .entries
+    entries-are =
+        rw (into .holds, ← listed-is)
+        (entries-stored (startOf trace) (whole .entries) store₀ (entries-small choice (capacity store₀) trace short))
+
+    starts-are : (k : ℕ) → k < r .listed → startFrom store k ≡ startOf trace (entryAt (whole .entries) k .line)
+    starts-are k l =
+        let inside : k < length (whole .entries) = rw listed-is l in
+        let low : startOf trace (entryAt (whole .entries) k .line) < 2 ^ 32 = omega (arith, start-within trace (entryAt (whole .entries) k .line)) in
+        rw (into .holds) (start-stored (startOf trace) (whole .entries) store₀ k inside low)
+
+    -- "then the first receive in file order that calls for 13 or 14 ..; then 15"
+    module _ (latencies sends : List ℕ) (times : List ℤ) (g : Given) (table : g .latencies ≡ latencies) where
+      solved-reaches : (x : Solved) → solvedBy latencies (entriesIn store (r .listed)) x (take (r .listed) sends) (take (r .listed) times)
+          → reaches trace (onMatched g choice whole (matchedOf (whole .entries))) (asReached (r .listed) (r .passed) x) store sends times
+      unfolding reaches asReached solvedBy onMatched onSettled
+      solved-reaches (Solved.Times matched unreceived rounds) by =
+          let s = rw entries-are at by in (
+            record { choice = choice; reading = whole; rounds = rounds; times = take (r .listed) times },
+            rw (s .matches, table, s .settles),
+            record {
+              listed = listed-is;
+              passed = passed-is;
+              matched = sym (s .many);
+              unreceived = sym (s .left);
+              rounds = refl;
+              entries = entries-are;
+              starts = starts-are;
+              places = s .places;
+              new = refl;
+            },
+          )
+      solved-reaches (Solved.Refused fault line) by = let s = rw entries-are at by in rw s
+      solved-reaches Solved.Impossible by = let s = rw entries-are at by in rw (s .0, table, s .1)
+      solved-reaches Solved.Misfit by = by
+
+    pub lines-read : r .stop ≡ End → (latencies : List ℕ) {x : Reached} {sends : List ℕ} {times : List ℤ}
+        → SettledBy latencies (entriesIn store (r .listed)) (r .listed) (r .passed) x sends times → fromLines trace latencies choice whole x store sends times
+    unfolding fromLines onRead
+    lines-read e latencies {x} {sends} {times} s asked places =
+        let g = givenOf trace latencies asked places in
+        let onward = ap (onRead g choice whole) (sym stop-is ∙ e) in
+        rw (onward, s .is) (solved-reaches latencies sends times g refl (s .answer) (s .solves))

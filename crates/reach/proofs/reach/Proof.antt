@@ -1,0 +1,103 @@
+-- `reach::reach` meets its contract. Here the code's number is the paper's limit of records, which a place of 32 bits holds.
+use native.Mathlib.Omega.{arith}
+use borrow.Author.Needs.{needs}
+use borrow.Author.Tests.{not-true, not-false}
+use Rattle.paper.specs.Answer.{most}
+use Rattle.reach.specs.Reach.{givenOf, reaches}
+use Rattle.reach.proofs.Clearing.{cleared-refused, cleared-reads}
+use Rattle.reach.proofs.Fitting.{unfit, sized, answered, read-on}
+use Rattle.reach.proofs.reach.Statement.{statement}
+use Rattle.reach.proofs.reach.Tie as tie
+
+capacity-requires : tie.Need-capacity-requires
+capacity-requires c κs = search needs
+
+fit-requires : tie.Need-fit-requires
+fit-requires c κs = search needs
+
+same-length : tie.Need-same-length
+same-length c = search needs
+
+returns : tie.Need-returns
+unfolding most
+returns c =
+    let a = c .before .before .before .before .before .before .before .before .before .before .args in
+    unfit (givenOf (a .trace .now) (a .latencies .now) (a .asked) (a .places)) (a .store .now) (a .sends .now) (a .before .now) (a .latency .now) (a .times .now) (a .spare .now) (c .before .before .capacity .ensures) (c .before .fit .ensures) (not-true _ (c .if1 .taken)) _ _ _
+
+check-requires : tie.Need-check-requires
+check-requires c κs = search needs
+
+enum-known-fault : tie.Need-enum-known-fault
+enum-known-fault c = search needs
+
+enum-known-choice : tie.Need-enum-known-choice
+enum-known-choice c = search needs
+
+read-requires : tie.Need-read-requires
+unfolding most
+read-requires c κs =
+    let check = c .before .before .before .before .before .before .before .before .before in
+    let fit = check .before in
+    let a = fit .before .before .before .before .before .before .before .before .before .before .args in
+    let reads = cleared-reads (givenOf (a .trace .now) (a .latencies .now) (a .asked) (a .places)) _ (check .check .ensures) (c .before .before .before .before .before .before .before .choice .given .1) in
+    (reads .1, sized (givenOf (a .trace .now) (a .latencies .now) (a .asked) (a .places)) (a .store .now) (a .sends .now) (a .before .now) (a .latency .now) (a .times .now) (a .spare .now) (fit .before .before .capacity .ensures) (fit .before .fit .ensures) (not-false _ (fit .if1 .left)) (omega arith))
+
+same-length-2 : tie.Need-same-length-2
+same-length-2 c = search needs
+
+returns-2 : tie.Need-returns-2
+unfolding most reaches
+returns-2 c =
+    let check = c .before .before .before in
+    let fit = check .before in
+    let a = fit .before .before .before .before .before .before .before .before .before .before .args in
+    answered (givenOf (a .trace .now) (a .latencies .now) (a .asked) (a .places)) (a .store .now) (a .sends .now) (a .before .now) (a .latency .now) (a .times .now) (a .spare .now) (fit .before .before .capacity .ensures) (fit .before .fit .ensures) (not-false _ (fit .if1 .left)) _ _ _ _ (cleared-refused (givenOf (a .trace .now) (a .latencies .now) (a .asked) (a .places)) _ (check .check .ensures) (c .before .fault .given .1))
+
+same-length-3 : tie.Need-same-length-3
+same-length-3 c = search needs
+
+same-length-4 : tie.Need-same-length-4
+same-length-4 c = search needs
+
+same-length-5 : tie.Need-same-length-5
+same-length-5 c = search needs
+
+same-length-6 : tie.Need-same-length-6
+same-length-6 c = search needs
+
+same-length-7 : tie.Need-same-length-7
+same-length-7 c = search needs
+
+same-length-8 : tie.Need-same-length-8
+same-length-8 c = search needs
+
+returns-3 : tie.Need-returns-3
+unfolding most
+returns-3 c =
+    let check = c .before .before .before .before .before .before .before .before .before .before .before .before .before .before .before .before .before .before .before .before in
+    let fit = check .before in
+    let a = fit .before .before .before .before .before .before .before .before .before .before .args in
+    let reads = cleared-reads (givenOf (a .trace .now) (a .latencies .now) (a .asked) (a .places)) _ (check .check .ensures) (c .before .before .before .before .before .before .before .before .before .before .before .before .before .before .before .before .before .before .choice .given .1) in
+    read-on (givenOf (a .trace .now) (a .latencies .now) (a .asked) (a .places)) (a .store .now) (a .sends .now) (a .before .now) (a .latency .now) (a .times .now) (a .spare .now) (fit .before .before .capacity .ensures) (fit .before .fit .ensures) (not-false _ (fit .if1 .left)) _ (reads .0) _ _ _ _ (c .before .before .before .before .before .before .before .before .before .before .read .ensures)
+
+pub reach-spec : {M : Type 1} → statement M
+reach-spec =
+    tie.close
+    (tie.spec
+    capacity-requires
+    fit-requires
+    same-length
+    returns
+    check-requires
+    enum-known-fault
+    enum-known-choice
+    read-requires
+    same-length-2
+    returns-2
+    same-length-3
+    same-length-4
+    same-length-5
+    same-length-6
+    same-length-7
+    same-length-8
+    returns-3)

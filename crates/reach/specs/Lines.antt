@@ -1,0 +1,51 @@
+-- What the functions behind 1 to 4 have in hand, and what they come to. What the caller named, and how many times are lent, is no
+-- longer asked.
+use Prim.Native.Nat.{ℕ, _<_}
+use mathlib.Core.Path.{_≡_}
+use mathlib.Core.List.{List}
+use lib.ListN.{length, take}
+use lib.IntN.{ℤ}
+use Rattle.paper.specs.Answer.{onRead}
+use Rattle.paper.specs.Reading.{Reading}
+use Rattle.paper.specs.declared.Asked.{Asked}
+use Rattle.paper.specs.declared.Choice.{Choice}
+use Rattle.paper.specs.declared.Entry.{Entry}
+use Rattle.paper.specs.declared.Fault.the-variants as Fault
+use Rattle.store.specs.Layout.{tooMany}
+use Rattle.solve.specs.declared.Solved.{Solved}
+use Rattle.solve.specs.declared.Solved.the-variants as Solved
+use Rattle.solve.specs.Outcome.{solvedBy}
+use Rattle.reach.specs.declared.Reached.{Reached}
+use Rattle.reach.specs.declared.Reached.the-variants.{Times, Refused, Misfit}
+use Rattle.reach.specs.Reach.{givenOf, reaches}
+
+-- slices for n records each; places are numbers of 32 bits
+pub record Sized (n : ℕ) (sends before latency : List ℕ) (times spare : List ℤ) : Type 0 where
+  pub few : n < tooMany
+  pub all-sends : length sends ≡ n
+  pub all-before : length before ≡ n
+  pub all-latency : length latency ≡ n
+  pub all-times : length times ≡ n
+  pub all-spare : length spare ≡ n
+
+-- ---- from the records on
+
+-- an answer to the records, told as how far the call comes
+unfoldable pub asReached : ℕ → ℕ → Solved → Reached
+asReached listed passed (Solved.Times matched unreceived rounds) =
+    Times (record { listed = listed; passed = passed; matched = matched; unreceived = unreceived; rounds = rounds })
+asReached listed passed (Solved.Refused fault line) = Refused fault line
+asReached listed passed Solved.Impossible = Refused Fault.NoTimes 0
+asReached listed passed Solved.Misfit = Misfit
+
+pub record SettledBy (latencies : List ℕ) (es : List Entry) (listed passed : ℕ) (r : Reached) (sends : List ℕ) (times : List ℤ) : Type 0 where
+  pub answer : Solved
+  pub is : r ≡ asReached listed passed answer
+  pub solves : solvedBy latencies es answer (take listed sends) (take listed times)
+
+-- ---- from the lines on
+
+unfoldable pub fromLines : (trace latencies : List ℕ) → Choice → Reading → Reached → (store sends : List ℕ) → List ℤ → Type 0
+fromLines trace latencies choice r answer store sends times =
+    (asked : Asked) (places : ℕ)
+    → reaches trace (onRead (givenOf trace latencies asked places) choice r (r .stop)) answer store sends times

@@ -1,0 +1,89 @@
+// How far a call comes: the refusals from 1 to 15, or the times. The records stay in the store, the places of their sends and their
+// times in two slices, for whatever ending the call has; nothing is looked at or touched that a caller gets to see.
+mod check;
+mod lines;
+
+ghost use mathlib.Core.Path.{_≡_};
+ghost use mathlib.Core.List.{[], _∷_};
+ghost use lib.ListN.{length};
+ghost use Rattle.paper.specs.Answer.{most};
+ghost use Rattle.store.specs.Layout.{capacity};
+ghost use Rattle.reach.specs.Reach.{givenOf, fits, ReachedBy};
+use answer::Counts;
+use check::Cleared;
+use paper::Asked;
+use paper::Fault;
+
+pub enum Reached {
+    // what was counted; the first places of the slices hold what belongs to the listed records
+    Times(Counts),
+    Refused(Fault, usize),
+    // the slices are not made for as many records as a call may list
+    Misfit,
+}
+
+// The store and every slice are made for n records.
+fn fit(
+    n: usize,
+    room: usize,
+    times: usize,
+    sends: usize,
+    before: usize,
+    latency: usize,
+    spare: usize,
+) -> bool
+    ensures { λ r. ⌜ r ≡ fits n room (times ∷ sends ∷ before ∷ latency ∷ spare ∷ []) ⌝ }
+{
+    if room != n {
+        return false;
+    }
+    if times != room {
+        return false;
+    }
+    clock::all_are(room, sends, before, latency, spare)
+}
+
+// `places` is how many times the caller lends. Of the other slices `before`, `latency` and `spare` are room for the work.
+pub fn reach(
+    trace: &[u8],
+    latencies: &[u32],
+    asked: Asked,
+    places: usize,
+    store: &mut [u32],
+    sends: &mut [u32],
+    before: &mut [u32],
+    latency: &mut [u32],
+    times: &mut [i64],
+    spare: &mut [i64],
+) -> Reached
+    ensures { λ r. ⌜ ReachedBy (fits (most (givenOf (now (trace .entry)) (now (latencies .entry)) asked places)) (capacity (now (store .entry))) (length (now (times .entry)) ∷ length (now (sends .entry)) ∷ length (now (before .entry)) ∷ length (now (latency .entry)) ∷ length (now (spare .entry)) ∷ [])) (givenOf (now (trace .entry)) (now (latencies .entry)) asked places) r (now (store .exit)) (now (sends .exit)) (now (times .exit)) ⌝ }
+{
+    let room = store::capacity(store);
+    if !fit(
+        paper::MOST,
+        room,
+        times.len(),
+        sends.len(),
+        before.len(),
+        latency.len(),
+        spare.len(),
+    ) {
+        return Reached::Misfit;
+    }
+    match check::check(trace, latencies, asked, places) {
+        Cleared::Refused(fault) => Reached::Refused(fault, 0),
+        Cleared::Under(choice) => {
+            lines::read(
+                choice,
+                trace,
+                latencies,
+                store,
+                sends,
+                before,
+                latency,
+                times,
+                spare,
+            )
+        }
+    }
+}

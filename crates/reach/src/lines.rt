@@ -1,0 +1,95 @@
+// "then line by line, the first bad line deciding; then the first receive in file order that calls for 13 or 14 ..; then 15".
+ghost use Prim.Native.Nat.{_≤_};
+ghost use mathlib.Core.Path.{_≡_};
+ghost use lib.ListN.{length};
+ghost use Rattle.paper.specs.Answer.{longest};
+ghost use Rattle.paper.specs.Reading.{readOf};
+ghost use Rattle.store.specs.Layout.{capacity, entriesIn};
+ghost use Rattle.reach.specs.Lines.{Sized, asReached, SettledBy, fromLines};
+use crate::Reached;
+use answer::Counts;
+use paper::Choice;
+use paper::Fault;
+use paper::Stop;
+use solve::Solved;
+
+// An answer to the records, told as how far the call comes.
+fn told(listed: usize, passed: usize, solved: Solved) -> Reached
+    ensures { λ r. ⌜ r ≡ asReached listed passed solved ⌝ }
+{
+    match solved {
+        Solved::Refused(fault, line) => Reached::Refused(fault, line),
+        Solved::Impossible => Reached::Refused(Fault::NoTimes, 0),
+        // never: each slice has a place for each record that was read
+        Solved::Misfit => Reached::Misfit,
+        Solved::Times(matched, unreceived, rounds) => Reached::Times(Counts {
+            listed: listed,
+            passed: passed,
+            matched: matched,
+            unreceived: unreceived,
+            rounds: rounds,
+        }),
+    }
+}
+
+// The times of the records that were read.
+fn settle(
+    latencies: &[u32],
+    store: &[u32],
+    listed: usize,
+    passed: usize,
+    sends: &mut [u32],
+    before: &mut [u32],
+    latency: &mut [u32],
+    times: &mut [i64],
+    spare: &mut [i64],
+) -> Reached
+    requires { ⌜ Sized (length (now sends)) (now sends) (now before) (now latency) (now times) (now spare) ⌝ }
+    requires { ⌜ (listed ≤ length (now sends)) × (listed ≤ capacity (now store)) ⌝ }
+    ensures { λ r. ⌜ SettledBy (now (latencies .entry)) (entriesIn (now (store .entry)) listed) listed passed r (now (sends .exit)) (now (times .exit)) ⌝ }
+{
+    let solved = solve::solve(
+        store,
+        latencies,
+        &mut sends[0..listed],
+        &mut before[0..listed],
+        &mut latency[0..listed],
+        &mut times[0..listed],
+        &mut spare[0..listed],
+    );
+    told(listed, passed, solved)
+}
+
+// The lines into the store, and the times of the records there.
+pub(crate) fn read(
+    choice: Choice,
+    trace: &[u8],
+    latencies: &[u32],
+    store: &mut [u32],
+    sends: &mut [u32],
+    before: &mut [u32],
+    latency: &mut [u32],
+    times: &mut [i64],
+    spare: &mut [i64],
+) -> Reached
+    requires { ⌜ length (now trace) ≤ longest ⌝ }
+    requires { ⌜ Sized (capacity (now store)) (now sends) (now before) (now latency) (now times) (now spare) ⌝ }
+    ensures { λ r. ⌜ fromLines (now (trace .entry)) (now (latencies .entry)) choice (readOf choice (capacity (now (store .entry))) (now (trace .entry))) r (now (store .exit)) (now (sends .exit)) (now (times .exit)) ⌝ }
+{
+    let read = trace::read_trace(choice, trace, store);
+    let stop = read.stop;
+    match stop {
+        Stop::At(fault, line) => Reached::Refused(fault, line),
+        Stop::End => settle(
+            latencies,
+            store,
+            read.listed,
+            read.passed,
+            sends,
+            before,
+            latency,
+            times,
+            spare,
+        ),
+    }
+}

@@ -1,0 +1,55 @@
+-- The loop that sums: the written trace is as much longer than the trace as the new stamps go beyond the old ones.
+use Prim.Native.Nat.{ℕ, _+_, _-_, _*_, _≤_, _<_}
+use mathlib.Core.Path.{_≡_, refl}
+use mathlib.Core.List.{List}
+use mathlib.Core.Bool.{true, false}
+use native.Mathlib.Omega.{arith}
+use lib.ListN.{length, getD, length-append, length-drop}
+use lib.IntN.{ℤ, pos}
+use Rattle.shown.specs.Writes.{shownLength}
+use Rattle.writing.specs.Patched.{inPlace, bytesFor}
+use Rattle.writing.specs.Inner.{Next, StampOf, Changed, changed, unfit}
+use Rattle.writing.specs.declared.measure.Change.the-variants.{Of, Unfit}
+use Rattle.writing.specs.declared.place.Stamp.{Stamp}
+use Rattle.writing.proofs.Going.{Going, Sound, going-start, all-told, misplaced, sound, word-length, onward}
+
+pub record Summing (s : List ℕ) (store : List ℕ) (times : List ℤ) (from gained lost k : ℕ) : Type 0 where
+  pub going : Going s store times from k
+  pub sum : length (going .before) + lost ≡ from + gained
+  pub less : lost ≤ from
+  pub more : gained ≤ 9 * k
+
+pub summing-start : (s : List ℕ) {store : List ℕ} {times : List ℤ} {k : ℕ} → Next store times 0 k → Summing s store times 0 0 0 k
+unfolding going-start
+summing-start s next = record { going = going-start s next; sum = refl; less = omega arith; more = omega arith }
+
+module _ {s : List ℕ} {store : List ℕ} {times : List ℤ} {from gained lost k : ℕ} (summing : Summing s store times from gained lost k) where
+  pub summed : length times ≤ k → Changed s (bytesFor s store times) (Of gained lost)
+  summed h =
+      changed {gained = gained} {lost = lost} (all-told (summing .going) h)
+      (simp (length-append, length-drop) (omega (arith, summing .sum, summing .going .inside)))
+      (omega (arith, summing .less, summing .going .inside))
+
+  -- the next stamp, and the test whether it is in its place
+  module _ (left : k < length times) {r : Stamp} (found : StampOf s store k r) {t : ℤ} (is : t ≡ getD times k (pos 0)) {new : ℕ} (takes : new ≡ shownLength t) where
+    pub not-placed : inPlace (length s - from) (length s - r .at) (r .long) new ≡ false → Changed s (bytesFor s store times) Unfit
+    not-placed e = unfit (misplaced (summing .going) left found is (rw takes at e))
+
+    module _ (e : inPlace (length s - from) (length s - r .at) (r .long) new ≡ true) where
+      placed : inPlace (length s - from) (length s - r .at) (r .long) (shownLength t) ≡ true
+      placed = rw takes at e
+
+      pub stamp-sound : Sound s from r new
+      stamp-sound = rw takes (sound (summing .going) left found is placed)
+
+      pub summing-next : {next : ℕ} → Next store times (k + 1) next → Summing s store times (r .at + r .long) (gained + (new - 8)) (lost + (r .long - 8)) next
+      unfolding onward
+      summing-next n =
+          let p = stamp-sound in
+          let long = word-length (summing .going) left found is placed in
+          record {
+            going = onward (summing .going) left found is placed n;
+            sum = rw (length-append, long) (omega (arith, summing .sum, takes));
+            less = omega (arith, summing .less);
+            more = omega (arith, summing .more, n .low);
+          }
