@@ -26,8 +26,9 @@ fn latency_at(store: &[u32], table: &[u32], i: usize) -> u32
         Role::Neither => 0,
         Role::Send(_) => 0,
         Role::Receive(m) => {
-            let processor = store::processor_at(store, i);
-            number_at(table, 64 * m.peer + processor)
+            let sender = m.peer;
+            let receiver = store::processor_at(store, i);
+            number_at(table, 64 * sender + receiver)
         }
     }
 }

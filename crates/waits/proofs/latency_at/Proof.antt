@@ -23,13 +23,13 @@ processor-at-requires c κs = search needs
 
 mul-number-at : tie.Need-mul-number-at
 mul-number-at c =
-    let c₃ = c .before .before .before in
-    omega (arith, place-low _ _ (c₃ .before .before .role-at .ensures) (c₃ .role .given .1) (c .before .processor-at .ensures))
+    let c₂ = c .before .before in
+    omega (arith, place-low _ _ (c₂ .before .before .role-at .ensures) (c₂ .role .given .1) (c .processor-at .ensures))
 
 add-number-at : tie.Need-add-number-at
 add-number-at c =
-    let c₃ = c .before .before .before in
-    omega (arith, place-low _ _ (c₃ .before .before .role-at .ensures) (c₃ .role .given .1) (c .before .processor-at .ensures))
+    let c₂ = c .before .before in
+    omega (arith, place-low _ _ (c₂ .before .before .role-at .ensures) (c₂ .role .given .1) (c .processor-at .ensures))
 
 number-at-requires : tie.Need-number-at-requires
 number-at-requires c κs = search needs
@@ -42,9 +42,9 @@ returns-2 c = latency-send _ _ _ (c .before .before .role-at .ensures) (c .enum-
 
 returns-3 : tie.Need-returns-3
 returns-3 c =
-    let c₂ = c .before .before in
-    let c₄ = c₂ .before .before in
-    c .number-at .ensures ∙ latency-receive _ _ _ (c₄ .before .before .role-at .ensures) (c₄ .role .given .1) (c₂ .processor-at .ensures)
+    let c₁ = c .before in
+    let c₃ = c₁ .before .before in
+    c .number-at .ensures ∙ latency-receive _ _ _ (c₃ .before .before .role-at .ensures) (c₃ .role .given .1) (c₁ .processor-at .ensures)
 
 pub latency-at-spec : {M : Type 1} → statement M
 latency-at-spec =
