@@ -114,6 +114,7 @@ module _ (i : Inputs) (a : Accepted i) where
             (omega (arith, a .matched .read .begun .lengths .1, size i a, few-entries (a .choice) (most (given i)) (i .trace) (a .matched .read .whole)));
         later = later;
         writes = rw corrected-are written-trace;
+        written-length = rw corrected-are written-is;
         after = rw (room-is, written-is) (drop-at word _ (length word) refl);
         unasked = unasked;
       }

@@ -1,9 +1,13 @@
 -- `Demands` has the three theorems; the files before it what they need, from the tests up.
 pub mod Tests
 pub mod Numbers
+pub mod Stops
 pub mod Reached
 pub mod Judged
-pub mod Faults
+pub mod LineRows
+pub mod GoodLines
+pub mod ReceiveRows
+pub mod Said
 pub mod Closed
 pub mod Rows
 pub mod Exactly

@@ -12,7 +12,7 @@ use Rattle.paper.specs.declared.Choice.{Choice}
 use Rattle.paper.specs.declared.Fault.{Fault}
 use Rattle.paper.specs.declared.Fault.the-variants as Fault
 use Rattle.demands.specs.Steps.{Chosen, RightLengths, LowLatencies, ShortTrace, Begun, reading, entries, Read, Matched, waits}
-use Rattle.demands.specs.Table.{BadLine, BadReceive}
+use Rattle.demands.proofs.Stops.{BadLine, BadReceive}
 use Rattle.demands.proofs.Tests.{not-told, lengths-tell, lows-tell, short-tells}
 
 -- what a call has found that settles so

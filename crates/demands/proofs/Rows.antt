@@ -1,6 +1,5 @@
 -- Every call reaches its times or is in a row of the table, and stops as its row says: but for 16, which is decided after `reach`.
-use Prim.Native.Nat.{ℕ, _≤_}
-use native.Mathlib.Omega.{arith}
+use Prim.Native.Nat.{ℕ}
 use mathlib.Core.Path.{_≡_, refl, sym, ap, _∙_}
 use mathlib.Core.Logic.{_⊎_, inl, inr}
 use mathlib.Core.Bool.{Bool, true, false}
@@ -9,10 +8,10 @@ use mathlib.Core.List.{List}
 use lib.ListN.{length}
 use lib.IntN.{ℤ}
 use lib.Dec.{leb}
-use Rattle.paper.specs.Numbers.{numberOf}
+use Rattle.paper.specs.Reading.{unended}
 use Rattle.paper.specs.Matching.{matchedOf}
 use Rattle.paper.specs.Clock.{Settled, impossible, settled, settle}
-use Rattle.paper.specs.Answer.{Inputs, given, most, longest, heard, rightLengths, lowLatencies, stopped, reach}
+use Rattle.paper.specs.Answer.{Inputs, given, longest, heard, rightLengths, lowLatencies, stopped, reach}
 use Rattle.paper.specs.declared.Choice.{Choice}
 use Rattle.paper.specs.declared.Fault.{Fault}
 use Rattle.paper.specs.declared.Fault.the-variants as Fault
@@ -20,10 +19,14 @@ use Rattle.paper.specs.declared.Stop.{Stop}
 use Rattle.paper.specs.declared.Stop.the-variants.{End, At}
 use Rattle.rounds.proofs.Meaning.{impossible-iff}
 use Rattle.demands.specs.Steps.{Chosen, RightLengths, LowLatencies, Begun, reading, entries, Read, Matched, waits}
-use Rattle.demands.specs.Table.{BadLine, BadReceive, When}
+use Rattle.demands.specs.Rows.{NoSend, OtherLength}
+use Rattle.demands.specs.Table.{When}
 use Rattle.demands.proofs.Tests.{untold, lengths-tell, lows-tell, short-tells, unchosen, neither}
-use Rattle.demands.proofs.Faults.{Between, line-faults, receive-faults}
 use Rattle.demands.proofs.Closed.{waits-closed}
+use Rattle.demands.proofs.LineRows.{form-row, stamp-row, strict-row, handled-row, place-row, message-row}
+use Rattle.demands.proofs.GoodLines.{no-end, backwards, too-many}
+use Rattle.demands.proofs.ReceiveRows.{no-send-calls, other-length-calls}
+use Rattle.demands.proofs.Said.{bad-stops, line-stops, call-stops, when-line, when-receive}
 use Rattle.demands.proofs.Reached.{reach-choice, reach-length, reach-latency, reach-long, reach-line, reach-receive, reach-times}
 
 -- a call that has times
@@ -35,38 +38,6 @@ pub record Timed (i : Inputs) : Type 0 where
   pub settles : settle (waits i choice) ≡ settled rounds times
 
 module _ (i : Inputs) where
-  -- ---- the rows of lines and of receives
-
-  when-bad : (fault : Fault) (n : ℕ) → Between 5 14 fault → (numberOf fault ≤ 12 → BadLine i fault n) → (13 ≤ numberOf fault → BadReceive i fault n)
-      → When i fault n
-  unfolding When numberOf
-  when-bad Fault.BadChoice n b l r = absurd (omega arith)
-  when-bad Fault.WrongLength n b l r = absurd (omega arith)
-  when-bad Fault.HighLatency n b l r = absurd (omega arith)
-  when-bad Fault.LongTrace n b l r = absurd (omega arith)
-  when-bad Fault.Form n b l r = l (omega arith)
-  when-bad Fault.Stamp n b l r = l (omega arith)
-  when-bad Fault.Unlisted n b l r = l (omega arith)
-  when-bad Fault.NotHandled n b l r = l (omega arith)
-  when-bad Fault.Place n b l r = l (omega arith)
-  when-bad Fault.NoMessage n b l r = l (omega arith)
-  when-bad Fault.Backwards n b l r = l (omega arith)
-  when-bad Fault.TooMany n b l r = l (omega arith)
-  when-bad Fault.NoSend n b l r = r (omega arith)
-  when-bad Fault.OtherLength n b l r = r (omega arith)
-  when-bad Fault.NoTimes n b l r = absurd (omega arith)
-  when-bad Fault.NoRoom n b l r = absurd (omega arith)
-
-  when-line : (fault : Fault) (n : ℕ) → BadLine i fault n → When i fault n
-  when-line fault n h =
-      let b = line-faults (h .choice) (most (given i)) (i .trace) fault n (h .stops) in
-      when-bad fault n (omega arith) (λ l. h) (λ r. absurd (omega arith))
-
-  when-receive : (fault : Fault) (n : ℕ) → BadReceive i fault n → When i fault n
-  when-receive fault n h =
-      let b = receive-faults (entries i (h .choice)) fault n (h .calls) in
-      when-bad fault n (omega arith) (λ l. absurd (omega arith)) (λ r. h)
-
   -- ---- times, or some row
 
   abbrev Row : Type 0
@@ -81,12 +52,12 @@ module _ (i : Inputs) where
     on-receives : Read i choice → (s : Stop) → matchedOf (entries i choice) ≡ s → Timed i ⊎ Row
     on-receives r End e = on-times (record { read = r; matches = e }) _ refl
     on-receives r (At fault n) e =
-        inr (fault, n, when-receive fault n (record { choice = choice; read = r; calls = e }))
+        inr (fault, n, when-receive i fault n (record { choice = choice; read = r; calls = e }))
 
     on-lines : Begun i choice → (s : Stop) → reading i choice .stop ≡ s → Timed i ⊎ Row
     on-lines b End e = on-receives (record { begun = b; whole = e }) _ refl
     on-lines b (At fault n) e =
-        inr (fault, n, when-line fault n (record { choice = choice; begun = b; stops = e }))
+        inr (fault, n, when-line i fault n (record { choice = choice; begun = b; stops = e }))
 
     on-size : Chosen i choice → RightLengths i → LowLatencies i → (b : Bool) → leb (length (i .trace)) longest ≡ b → Timed i ⊎ Row
     unfolding When
@@ -119,16 +90,17 @@ module _ (i : Inputs) where
   row-stops Fault.WrongLength n (choice, c, l, e) = inl (reach-length i choice c l ∙ ap (stopped Fault.WrongLength) (sym e))
   row-stops Fault.HighLatency n (choice, c, l, h, e) = inl (reach-latency i choice c l h ∙ ap (stopped Fault.HighLatency) (sym e))
   row-stops Fault.LongTrace n (choice, c, l, h, s, e) = inl (reach-long i choice c l h s ∙ ap (stopped Fault.LongTrace) (sym e))
-  row-stops Fault.Form n h = inl (reach-line i Fault.Form n h)
-  row-stops Fault.Stamp n h = inl (reach-line i Fault.Stamp n h)
-  row-stops Fault.Unlisted n h = inl (reach-line i Fault.Unlisted n h)
-  row-stops Fault.NotHandled n h = inl (reach-line i Fault.NotHandled n h)
-  row-stops Fault.Place n h = inl (reach-line i Fault.Place n h)
-  row-stops Fault.NoMessage n h = inl (reach-line i Fault.NoMessage n h)
-  row-stops Fault.Backwards n h = inl (reach-line i Fault.Backwards n h)
-  row-stops Fault.TooMany n h = inl (reach-line i Fault.TooMany n h)
-  row-stops Fault.NoSend n h = inl (reach-receive i Fault.NoSend n h)
-  row-stops Fault.OtherLength n h = inl (reach-receive i Fault.OtherLength n h)
+  row-stops Fault.Form n (inl (l, c)) = inl (reach-line i Fault.Form n (bad-stops i n (unended l) c Fault.Form no-end))
+  row-stops Fault.Form n (inr (at, r)) = inl (reach-line i Fault.Form n (line-stops i n at Fault.Form (form-row r)))
+  row-stops Fault.Stamp n (at, r) = inl (reach-line i Fault.Stamp n (line-stops i n at Fault.Stamp (stamp-row r)))
+  row-stops Fault.Unlisted n (at, r) = inl (reach-line i Fault.Unlisted n (line-stops i n at Fault.Unlisted (strict-row r)))
+  row-stops Fault.NotHandled n (at, r) = inl (reach-line i Fault.NotHandled n (line-stops i n at Fault.NotHandled (handled-row r)))
+  row-stops Fault.Place n (at, r) = inl (reach-line i Fault.Place n (line-stops i n at Fault.Place (place-row r)))
+  row-stops Fault.NoMessage n (at, r) = inl (reach-line i Fault.NoMessage n (line-stops i n at Fault.NoMessage (message-row r)))
+  row-stops Fault.Backwards n (at, r) = inl (reach-line i Fault.Backwards n (bad-stops i n _ (at .comes) Fault.Backwards (backwards r)))
+  row-stops Fault.TooMany n (at, r) = inl (reach-line i Fault.TooMany n (bad-stops i n _ (at .comes) Fault.TooMany (too-many r)))
+  row-stops Fault.NoSend n f = inl (reach-receive i Fault.NoSend n (call-stops i n Fault.NoSend NoSend no-send-calls f))
+  row-stops Fault.OtherLength n f = inl (reach-receive i Fault.OtherLength n (call-stops i n Fault.OtherLength OtherLength other-length-calls f))
   row-stops Fault.NoTimes n (choice, m, none-sound, e) =
       inl (reach-times i choice m (impossible-iff (waits i choice) (waits-closed (i .latencies) (entries i choice)) .1 none-sound)
       ∙ ap (stopped Fault.NoTimes) (sym e))

@@ -42,6 +42,8 @@ pub record AcceptedAnswer (i : Inputs) (choice : Choice) : Type 0 where
   pub later : (k : ℕ) → listed i ≤ k → time i k ≡ timeAt (i .times) k
   -- "The output room holds the written trace at its start and is untouched after it."
   pub writes : writtenTrace i ≡ bytes i choice (corrected i)
+  -- "and the written trace's length", also where it fills the room
+  pub written-length : written i ≡ length (bytes i choice (corrected i))
   pub after : drop (written i) (judge i .room) ≡ drop (written i) (i .room)
   -- "unasked, the output room stays untouched"
   pub unasked : i .wanted ≡ false → (written i ≡ 0) × (judge i .room ≡ i .room)

@@ -1,6 +1,8 @@
 -- The demands, one file to each, in their order. The files before them have the words in which they are said.
 pub mod Parts
 pub mod Steps
+pub mod Before
+pub mod Rows
 pub mod Table
 pub mod Records
 pub mod Accepted

@@ -1,30 +1,20 @@
 -- Document 01's table of numbers, row by row: "given exactly when", with the line. Each row has the checks before it passed.
 use Prim.Native.Nat.{ℕ, _<_}
 use mathlib.Core.Path.{_≡_}
+use mathlib.Core.Logic.{_⊎_}
 use mathlib.Core.Bool.{true}
 use mathlib.Core.List.{List}
 use lib.ListN.{length}
 use lib.IntN.{ℤ}
-use Rattle.paper.specs.Matching.{matchedOf}
+use Rattle.paper.specs.Reading.{unended}
 use Rattle.paper.specs.Clock.{Sound, settle, settled}
-use Rattle.paper.specs.Answer.{Inputs, written}
+use Rattle.paper.specs.Answer.{Inputs, given, most, written}
 use Rattle.paper.specs.declared.Choice.{Choice}
 use Rattle.paper.specs.declared.Fault.{Fault}
 use Rattle.paper.specs.declared.Fault.the-variants as Fault
-use Rattle.paper.specs.declared.Stop.the-variants.{At}
-use Rattle.demands.specs.Steps.{Chosen, RightLengths, LowLatencies, ShortTrace, Begun, reading, Read, entries, Matched, waits}
-
--- the first bad line, and what is bad in it
-pub record BadLine (i : Inputs) (fault : Fault) (line : ℕ) : Type 0 where
-  pub choice : Choice
-  pub begun : Begun i choice
-  pub stops : reading i choice .stop ≡ At fault line
-
--- the first receive in file order that calls for anything, and what it calls for
-pub record BadReceive (i : Inputs) (fault : Fault) (line : ℕ) : Type 0 where
-  pub choice : Choice
-  pub read : Read i choice
-  pub calls : matchedOf (entries i choice) ≡ At fault line
+use Rattle.demands.specs.Steps.{Chosen, RightLengths, LowLatencies, ShortTrace, Matched, waits}
+use Rattle.demands.specs.Before.{ComesTo, AtLine}
+use Rattle.demands.specs.Rows.{BadForm, BadStamp, UnlistedStrict, NotHandled, BadPlace, NoMessage, Backwards, TooMany, NoSend, OtherLength, FirstReceive}
 
 unfoldable pub When : Inputs → Fault → ℕ → Type 0
 -- "choice is neither 1 (strict) nor 2 (lenient)"
@@ -36,26 +26,26 @@ When i Fault.HighLatency line = (choice : Choice) × Chosen i choice × RightLen
 -- "trace above 65,536 bytes"
 When i Fault.LongTrace line =
     (choice : Choice) × Chosen i choice × RightLengths i × LowLatencies i × (¬ ShortTrace i) × (line ≡ 0)
--- "form of a line or of any field but the timestamp (bad data too)"
-When i Fault.Form line = BadLine i Fault.Form line
+-- "no LF at its end (5)", "form of a line or of any field but the timestamp (bad data too)"
+When i Fault.Form line = ((l : List ℕ) × ComesTo i line (unended l)) ⊎ ((at : AtLine i line) × BadForm (at .line))
 -- "form of the timestamp"
-When i Fault.Stamp line = BadLine i Fault.Stamp line
+When i Fault.Stamp line = (at : AtLine i line) × BadStamp (at .line)
 -- "unlisted, under strict"
-When i Fault.Unlisted line = BadLine i Fault.Unlisted line
+When i Fault.Unlisted line = (at : AtLine i line) × UnlistedStrict (at .comes .choice) (at .line)
 -- "message event not handled"
-When i Fault.NotHandled line = BadLine i Fault.NotHandled line
+When i Fault.NotHandled line = (at : AtLine i line) × NotHandled (at .line)
 -- "listed record: processor outside 0 to 63 or process not 0"
-When i Fault.Place line = BadLine i Fault.Place line
+When i Fault.Place line = (at : AtLine i line) × BadPlace (at .line)
 -- "a send or receive without its three good data"
-When i Fault.NoMessage line = BadLine i Fault.NoMessage line
+When i Fault.NoMessage line = (at : AtLine i line) × NoMessage (at .line)
 -- "time below the last listed time of the same processor"
-When i Fault.Backwards line = BadLine i Fault.Backwards line
+When i Fault.Backwards line = (at : AtLine i line) × Backwards (at .comes .before) (at .comes .choice) (at .line)
 -- "listed record number 2,049"
-When i Fault.TooMany line = BadLine i Fault.TooMany line
+When i Fault.TooMany line = (at : AtLine i line) × TooMany (most (given i)) (at .comes .before) (at .comes .choice) (at .line)
 -- "receive without a matching send"
-When i Fault.NoSend line = BadReceive i Fault.NoSend line
+When i Fault.NoSend line = FirstReceive i line NoSend
 -- "its length differs from the send's"
-When i Fault.OtherLength line = BadReceive i Fault.OtherLength line
+When i Fault.OtherLength line = FirstReceive i line OtherLength
 -- "no times exist"
 When i Fault.NoTimes line = (choice : Choice) × Matched i choice × ((x : ℕ → ℤ) → Sound (waits i choice) x → ⊥) × (line ≡ 0)
 -- "written trace longer than the room lent", where it is asked for

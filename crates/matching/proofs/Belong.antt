@@ -3,18 +3,19 @@
 use Prim.Native.Nat.{ℕ}
 use native.Mathlib.Omega.{arith}
 use mathlib.Core.Path.{_≡_, refl, sym, ap, _∙_}
+use mathlib.Core.Bool.{true}
 use mathlib.Core.Option.{some, Option·none-ne-some}
 use mathlib.Core.List.{List}
 use lib.ListN.{length, take}
-use Rattle.paper.specs.Matching.{Key, countIf, isSendOf, isReceiveOf, sendPlace, sendFor, sendOf}
+use Rattle.paper.specs.Matching.{Key, countIf, sendsUnder, isSendOf, isReceiveOf, sendPlace, sendFor, sendOf}
 use Rattle.paper.specs.declared.Message.{Message}
 use Rattle.paper.specs.declared.Role.{Role}
 use Rattle.paper.specs.declared.Role.the-variants.{Neither, Send, Receive}
 use Rattle.paper.specs.declared.Entry.{Entry}
-use Rattle.matching.specs.Belongs.{Belongs}
+use Rattle.matching.specs.Belongs.{keyOf, Belongs}
 use Rattle.matching.proofs.Count.{count-take}
 use Rattle.matching.proofs.Places.{Kth, sendAt, place-answers}
-use Rattle.matching.proofs.Keys.{sendKey, receiveKey, sends-under}
+use Rattle.matching.proofs.Keys.{sendKey, receiveKey, key-same, sends-under}
 -- by names that no processor or role at hand bears
 pub use Rattle.matching.specs.Belongs.{processor as processorAt, role as roleAt}
 
@@ -56,3 +57,24 @@ belongs es i j h =
     let kth = place-answers (receiveKey (processorAt es i) m) _ es .sound j place in
     let (s, sends, told) = sends-under (receiveKey (processorAt es i) m) (processorAt es j) (roleAt es j) (kth .passes) in
     kth-belongs es i j m receives kth s sends told
+
+-- and back: what it belongs to is its send
+module _ (es : List Entry) (i j : ℕ) (b : Belongs es i j) where
+  one-key : keyOf es j i (b .sent) ≡ receiveKey (processorAt es i) (b .received)
+  one-key = rw (b .from, b .tag)
+
+  is-send : sendAt (keyOf es j i (b .sent)) es j ≡ true
+  unfolding sendsUnder
+  is-send = rw (b .sends, b .to) (key-same (keyOf es j i (b .sent)))
+
+  is-kth : Kth (sendAt (keyOf es j i (b .sent)) es) (length es) (countIf (isReceiveOf (keyOf es j i (b .sent))) (take i es)) j
+  is-kth =
+      record {
+        within = b .within;
+        passes = is-send;
+        rank = sym (count-take (isSendOf (keyOf es j i (b .sent))) es j (omega (arith, b .within))) ∙ sym (b .counted);
+      }
+
+  pub belongs-back : sendOf es i ≡ some j
+  unfolding sendOf sendFor
+  belongs-back = rw (b .receives) (place-answers (receiveKey (processorAt es i) (b .received)) _ es .whole j (rw one-key at is-kth))

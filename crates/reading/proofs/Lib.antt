@@ -7,3 +7,4 @@ pub mod Along
 pub mod Heads
 pub mod Tidy
 pub mod Starts
+pub mod Sixes

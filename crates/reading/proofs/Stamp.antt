@@ -85,7 +85,7 @@ begun-at t choice (six h fields) = go (listedKind (h .kind))
 -- ---- the six fields
 
 -- one field taken
-took : {A : Type 0} (form : List ℕ → Field) (l : List ℕ) (none-taken : A) (more : ℤ → Option (List ℕ) → A)
+pub took : {A : Type 0} (form : List ℕ → Field) (l : List ℕ) (none-taken : A) (more : ℤ → Option (List ℕ) → A)
     → onFirst (firstOf form (some l)) none-taken more ≡ onField (form (field l)) none-taken (λ v. more v (rest l))
 unfolding firstOf
 took form l none-taken more = go (form (field l))
@@ -105,7 +105,7 @@ behind-at : (t k e t₀ : ℤ) (fields : Option (List ℕ)) → placeOf k e t fi
 unfolding placeOf
 behind-at t k e t₀ fields = simp at-first (unfold begunAt in refl)
 
-rest-on : (l : List ℕ) → goesOn l ≡ true → rest l ≡ some (after l)
+pub rest-on : (l : List ℕ) → goesOn l ≡ true → rest l ≡ some (after l)
 unfolding rest
 rest-on l g = rw g
 
@@ -127,7 +127,7 @@ opened-at t (Good k) Bad c fields fields₁ h e = cc
 opened-at t (Good k) (Good v) Bad fields fields₁ h e = cc
 opened-at t (Good k) (Good v) (Good u) fields fields₁ h e = behind-at t k v u fields ∙ ap (begunAt t) e ∙ unfold begunAt in refl
 
-above : (n : ℕ) (l : List ℕ) → fieldsAbove (suc n) l ≡ true → (goesOn l ≡ true) × (fieldsAbove n (after l) ≡ true)
+pub above : (n : ℕ) (l : List ℕ) → fieldsAbove (suc n) l ≡ true → (goesOn l ≡ true) × (fieldsAbove n (after l) ≡ true)
 unfolding fieldsAbove
 above n l e = both (goesOn l) (fieldsAbove n (after l)) e
 
