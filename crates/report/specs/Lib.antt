@@ -1,3 +1,4 @@
 -- What the report is.
 pub mod Put
 pub mod Report
+pub mod Said

@@ -5,7 +5,7 @@ ghost use Rattle.report.specs.Report.{shown, numbered, verdictShown, ref
 ghost use Rattle.report.specs.Put.{Put, Short};
 use paper::Answer;
 
-fn put_word(room: &mut [u8], at: usize, word: &[u8]) -> usize
+pub(crate) fn put_word(room: &mut [u8], at: usize, word: &[u8]) -> usize
     requires { ⌜ at + length (now word) ≤ length (now room) ⌝ }
     ensures { λ r. ⌜ Put (now (room .entry)) at (now (word .entry)) r (now (room .exit)) ⌝ }
 {

@@ -1,4 +1,5 @@
--- Document 01, "Sample traces": those marked P, each a call from the trace's bytes with its whole outcome.
+-- Document 01, "Sample traces": those marked P, each a call from the trace's bytes with its whole outcome and the program's whole
+-- report of it.
 use Prim.Native.Nat.{ℕ, _+_, _*_}
 use Prim.Native.String.{String}
 use mathlib.Core.Path.{_≡_}
@@ -8,6 +9,7 @@ use lib.ListN.{length, take, drop, set, replicate}
 use lib.IntN.{ℤ, pos, negsuc}
 use Rattle.paper.specs.Answer.{Inputs, Outcome, judge}
 use Rattle.paper.specs.Text.{bytesOf}
+use Rattle.report.specs.Report.{reportOf}
 
 -- ---- the traces
 
@@ -81,46 +83,79 @@ answer verdict matched rounds times =
       room = [];
     }
 
+-- a call, what it comes to, and the lines of its report
 pub record Sample : Type 0 where
   pub call : Inputs
   pub comes : Outcome
+  pub shows : List String
+
+-- "The program's whole report, header and all"
+abbrev report : (verdict listed matched rounds : String) → List String
+report verdict listed matched rounds = verdict ∷ listed ∷ "passed 0\n" ∷ matched ∷ "unreceived 0\n" ∷ rounds ∷ []
 
 -- ---- the list
 
 unfoldable pub samples : List Sample
 samples =
-    -- P1: "times 10, 12, 15, 15, 20; rounds 3; verdict 2"
+    -- P1: "times 10, 12, 15, 15, 20; rounds 3; verdict 2. The program's whole report, header and all"
     record {
       call = given (joined traceA) (everywhere 5) 1;
       comes = answer 2 2 3 (pos 10 ∷ pos 12 ∷ pos 15 ∷ pos 15 ∷ pos 20 ∷ []);
+      shows = "verdict corrected\n" ∷ "listed 5\n" ∷ "passed 0\n" ∷ "matched 2\n" ∷ "unreceived 0\n" ∷ "rounds 3\n" ∷ [];
     }
     -- P2: "its first three lines: 10, 12, 15; rounds 1"
     ∷ record {
       call = given (joined (take 3 traceA)) (everywhere 5) 1;
       comes = answer 2 1 1 (pos 10 ∷ pos 12 ∷ pos 15 ∷ []);
+      shows = report "verdict corrected\n" "listed 3\n" "matched 1\n" "rounds 1\n";
     }
     -- P3: "latencies 0: 10, 12, 10, 11, 13; rounds 1"
     ∷ record {
       call = given (joined traceA) (everywhere 0) 1;
       comes = answer 2 2 1 (pos 10 ∷ pos 12 ∷ pos 10 ∷ pos 11 ∷ pos 13 ∷ []);
+      shows = report "verdict corrected\n" "listed 5\n" "matched 2\n" "rounds 1\n";
     }
     -- P4: "line 4 removed: 13 at line 4"
-    ∷ record { call = given (joined (take 3 traceA ++ drop 4 traceA)) (everywhere 5) 1; comes = refusal 13 4 }
+    ∷ record {
+      call = given (joined (take 3 traceA ++ drop 4 traceA)) (everywhere 5) 1;
+      comes = refusal 13 4;
+      shows = "refused 13 line 4\n" ∷ [];
+    }
     -- P5: "empty trace: verdict 3, all counts 0"
-    ∷ record { call = given [] (everywhere 5) 1; comes = answer 3 0 0 [] }
+    ∷ record {
+      call = given [] (everywhere 5) 1;
+      comes = answer 3 0 0 [];
+      shows = report "verdict nothing to judge\n" "listed 0\n" "matched 0\n" "rounds 0\n";
+    }
     -- P6: "trace B below, latencies 0: four times 4, rounds 3"
-    ∷ record { call = given (joined traceB) (everywhere 0) 1; comes = answer 2 2 3 (pos 4 ∷ pos 4 ∷ pos 4 ∷ pos 4 ∷ []) }
+    ∷ record {
+      call = given (joined traceB) (everywhere 0) 1;
+      comes = answer 2 2 3 (pos 4 ∷ pos 4 ∷ pos 4 ∷ pos 4 ∷ []);
+      shows = report "verdict corrected\n" "listed 4\n" "matched 2\n" "rounds 3\n";
+    }
     -- P7: "trace B with latency 1 from 0 to 1 only: 15"
-    ∷ record { call = given (joined traceB) (set (everywhere 0) (64 * 0 + 1) 1) 1; comes = refusal 15 0 }
+    ∷ record {
+      call = given (joined traceB) (set (everywhere 0) (64 * 0 + 1) 1) 1;
+      comes = refusal 15 0;
+      shows = "refused 15 line 0\n" ∷ [];
+    }
     -- P8: "time "-0.000000" is 6"
-    ∷ record { call = given (bytesOf "0 0 -0.000000 0 0 0\n") (everywhere 0) 1; comes = refusal 6 1 }
+    ∷ record {
+      call = given (bytesOf "0 0 -0.000000 0 0 0\n") (everywhere 0) 1;
+      comes = refusal 6 1;
+      shows = "refused 6 line 1\n" ∷ [];
+    }
     -- P9: ""-0.000001" means -1"
-    ∷ record { call = given (bytesOf "0 0 -0.000001 0 0 0\n") (everywhere 0) 1; comes = answer 3 0 0 (negsuc 0 ∷ []) }
+    ∷ record {
+      call = given (bytesOf "0 0 -0.000001 0 0 0\n") (everywhere 0) 1;
+      comes = answer 3 0 0 (negsuc 0 ∷ []);
+      shows = report "verdict nothing to judge\n" "listed 1\n" "matched 0\n" "rounds 0\n";
+    }
     -- P10: "choice 3 is 1"
-    ∷ record { call = given (joined traceA) (everywhere 5) 3; comes = refusal 1 0 }
+    ∷ record { call = given (joined traceA) (everywhere 5) 3; comes = refusal 1 0; shows = "refused 1 line 0\n" ∷ [] }
     ∷ []
 
--- each comes to what it should
+-- each comes to what it should, and is reported so
 unfoldable pub Hold : List Sample → Type 0
 Hold [] = Unit
-Hold (s ∷ ss) = (judge (s .call) ≡ s .comes) × Hold ss
+Hold (s ∷ ss) = (judge (s .call) ≡ s .comes) × (reportOf (judge (s .call) .answer) ≡ joined (s .shows)) × Hold ss

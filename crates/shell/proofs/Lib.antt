@@ -1,2 +1,5 @@
--- What the program leans on in the judgement.
+-- The laws of the arguments, of what is said, and what the program leans on in the judgement.
+pub mod Planning
 pub mod Room
+pub mod Lent
+pub mod Program

@@ -1,10 +1,18 @@
-// The program `cantuvesh CHOICE TRACE TABLE [OUT]`, as document 01 has it under "What the base covers". The judgement is the
-// crate judge's, the report the crate report's; here the arguments, the files and the order of things come together.
+// The program `cantuvesh CHOICE TRACE TABLE [OUT]`, as document 01 has it under "What the base covers". What it says is a function of
+// its arguments, of what its files hold and of whether OUT could be written (specs/Program.antt); the functions here ask the system for
+// these and print what is said.
+mod arguments;
+mod judged;
 mod print;
 
+ghost use lib.ListN.{length};
+ghost use mathlib.Core.Path.{_≡_};
 ghost use Rattle.io.specs.Counts.{Counts};
-use paper::Answer;
-use paper::Asked;
+ghost use Rattle.shell.specs.Program.{onFiles, saidOf, ByFiles};
+use arguments::Plan;
+use files::Loaded;
+use paper::Fault;
+use report::Said;
 
 // The whole program. An argument that is missing or longer than any name is handed on as an empty one, which is no choice and no
 // file's name.
@@ -28,82 +36,62 @@ pub fn run() {
 
 // What the program does with its arguments. Their count has the program's own name in it.
 pub fn perform(count: usize, choice: &[u8], trace: &[u8], table: &[u8], out: &[u8]) {
-    let choice = choice_of(choice);
-    if choice == 0 {
-        print::refused(1);
-        return;
-    }
-    if 5 < count {
-        print::line(b"too many arguments\n");
-        return;
-    }
-    read_both(choice, trace, table, 4 < count, out);
+    let said = performed(count, choice, trace, table, out);
+    print::say(said);
 }
 
-// The first argument compared as bytes: 0 where it is neither "1" nor "2".
-fn choice_of(word: &[u8]) -> u32 {
-    if word.len() != 1 {
-        return 0;
-    }
-    match word[0] {
-        b'1' => 1,
-        b'2' => 2,
-        _ => 0,
-    }
-}
-
-// Both files are read before either is looked at: "cannot read" comes before every refusal but 1. Of a file that is too long one
-// byte too many is read, which tells.
-fn read_both(choice: u32, trace: &[u8], table: &[u8], wanted: bool, out: &[u8]) {
-    let mut bytes = [0u8; 65537];
-    let read = files::load(trace, &mut bytes);
-    if !read.ok {
-        print::line(b"cannot read\n");
-        return;
-    }
-    let mut held = [0u8; 16385];
-    let got = files::load(table, &mut held);
-    if !got.ok {
-        print::line(b"cannot read\n");
-        return;
-    }
-    let n = read.len;
-    let m = got.len;
-    judged(choice, &bytes[..n], &held[..m], wanted, out);
-}
-
-// "The table file is 16,384 bytes, four for each latency, low byte first, any other length being refusal 2."
-fn judged(choice: u32, trace: &[u8], table: &[u8], wanted: bool, out: &[u8]) {
-    let mut latencies = [0u32; 4096];
-    if !table::decode(table, &mut latencies) {
-        print::refused(2);
-        return;
-    }
-    let mut room = io::large_buffer();
-    let answer = judge_into(trace, &latencies, choice, wanted, &mut room);
-    let n = answer.written as usize;
-    if stored(wanted, answer, out, &room[..n]) {
-        print::answer(answer);
-    } else {
-        print::line(b"cannot write\n");
-    }
-}
-
-fn judge_into(trace: &[u8], latencies: &[u32], choice: u32, wanted: bool, room: &mut [u8]) -> Answer
-    ensures { λ r. ⌜ Counts (r .written) (now (room .exit)) ⌝ }
+// All but the printing.
+fn performed(count: usize, choice: &[u8], trace: &[u8], table: &[u8], out: &[u8]) -> Said
+    ensures { λ r. ⌜ ByFiles (saidOf count (now (choice .entry))) r ⌝ }
 {
-    let mut times = [0i64; 2048];
-    let asked = Asked { choice: choice };
-    judge::judge(trace, latencies, asked, &mut times, wanted, room)
+    match arguments::planned(count, choice) {
+        Plan::BadChoice => Said::Answered(answer::refused(Fault::BadChoice, 0)),
+        Plan::TooMany => Said::TooMany,
+        Plan::Unnamed => Said::CannotRead,
+        Plan::Judge(choice, wanted) => read_both(choice, wanted, trace, table, out),
+    }
 }
 
-// Whether what was asked for is in the file: a refusal, and an answer whose trace is not wanted, ask for nothing.
-fn stored(wanted: bool, answer: Answer, out: &[u8], text: &[u8]) -> bool {
-    if !wanted {
-        return true;
+// Of a file that is too long one byte too many is read, which tells.
+fn trace_buffer() -> [u8; 65537]
+    ensures { λ r. ⌜ length r ≡ 65537 ⌝ }
+{
+    [0; 65537]
+}
+
+fn table_buffer() -> [u8; 16385]
+    ensures { λ r. ⌜ length r ≡ 16385 ⌝ }
+{
+    [0; 16385]
+}
+
+fn read_both(choice: u32, wanted: bool, trace: &[u8], table: &[u8], out: &[u8]) -> Said
+    ensures { λ r. ⌜ ByFiles (onFiles choice wanted) r ⌝ }
+{
+    let mut bytes = trace_buffer();
+    let mut held = table_buffer();
+    let first = files::load(trace, &mut bytes);
+    let read = first.ok;
+    let second = load_behind(read, table, &mut held);
+    let n = first.len;
+    let m = second.len;
+    judged::judged(
+        choice,
+        wanted,
+        read,
+        &bytes[..n],
+        second.ok,
+        &held[..m],
+        out,
+    )
+}
+
+// The second file is not waited for where the first can't be read.
+fn load_behind(read: bool, name: &[u8], buffer: &mut [u8]) -> Loaded
+    ensures { λ r. ⌜ Counts (r .len) (now (buffer .exit)) ⌝ }
+{
+    if !read {
+        return Loaded { ok: false, len: 0 };
     }
-    if answer.number != 0 {
-        return true;
-    }
-    files::store(out, text)
+    files::load(name, buffer)
 }

@@ -1,0 +1,54 @@
+-- `shell::performed` meets its contract.
+use borrow.Author.Needs.{needs}
+use Rattle.shell.proofs.Program.{refuses, says-many, says-unnamed, judges}
+use Rattle.shell.proofs.performed.Statement.{statement}
+use Rattle.shell.proofs.performed.Tie as tie
+
+planned-requires : tie.Need-planned-requires
+planned-requires c κs = search needs
+
+enum-told : tie.Need-enum-told
+enum-told c = search needs
+
+refused-requires : tie.Need-refused-requires
+refused-requires c κs = search needs
+
+enum-told-2 : tie.Need-enum-told-2
+enum-told-2 c = search needs
+
+enum-told-3 : tie.Need-enum-told-3
+enum-told-3 c = search needs
+
+enum-known-choice : tie.Need-enum-known-choice
+enum-known-choice c = search needs
+
+read-both-requires : tie.Need-read-both-requires
+read-both-requires c κs = search needs
+
+returns : tie.Need-returns
+returns c = refuses _ _ (c .before .before .before .planned .ensures) (c .before .enum-told .given .1) (c .refused .ensures)
+
+returns-2 : tie.Need-returns-2
+returns-2 c = says-many _ _ (c .before .before .planned .ensures) (c .enum-told2 .given .1)
+
+returns-3 : tie.Need-returns-3
+returns-3 c = says-unnamed _ _ (c .before .before .planned .ensures) (c .enum-told3 .given .1)
+
+returns-4 : tie.Need-returns-4
+returns-4 c = judges _ _ (c .before .before .before .before .planned .ensures) (c .before .before .choice .given .1) (c .read-both .ensures)
+
+pub performed-spec : {M : Type 1} → statement M
+performed-spec =
+    tie.close
+    (tie.spec
+    planned-requires
+    enum-told
+    refused-requires
+    enum-told-2
+    enum-told-3
+    enum-known-choice
+    read-both-requires
+    returns
+    returns-2
+    returns-3
+    returns-4)
