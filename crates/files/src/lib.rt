@@ -1,6 +1,11 @@
 // Whole files, in and out. What the system does with a name and with bytes no contract can say: these functions are proved safe,
 // to end, and to count within what they are lent.
+mod beside;
+mod in_place;
+mod path;
 mod read;
+mod say;
+mod system;
 mod write;
 
 pub use read::Loaded;
