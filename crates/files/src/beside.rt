@@ -1,6 +1,5 @@
 // A file written beside another, in the same folder, which then takes its name: whoever looks finds the old one or the new one, whole,
 // and so does whoever looks after a run was killed. The one beside then stays, under a name that tells.
-use crate::path;
 use crate::say;
 use crate::system;
 use crate::system::Standing;
@@ -18,7 +17,7 @@ pub enum Outcome {
 // A file where there is none.
 pub fn create(name: &[u8], text: &[u8]) -> bool {
     let mut space = io::buffer();
-    let n = path::beside(name, &mut space);
+    let n = paths::beside(name, &mut space);
     if n == 0 {
         return false;
     }
@@ -49,7 +48,7 @@ fn create_by(beside: &mut [u8], name: &[u8], text: &[u8]) -> Outcome {
 // A file for one that stands there, with its owner and its mode.
 pub fn replace(name: &[u8], old: Standing, text: &[u8]) -> Outcome {
     let mut space = io::buffer();
-    let n = path::beside(name, &mut space);
+    let n = paths::beside(name, &mut space);
     if n == 0 {
         return Outcome::Forbidden;
     }
@@ -133,7 +132,7 @@ fn remove(name: &[u8]) {
 
 // The new name is in the folder, and a folder reaches the disk like a file. A folder that may not be read cannot be asked to.
 fn sync_folder(name: &[u8]) {
-    let n = path::folder(name);
+    let n = paths::folder(name);
     if n == 0 {
         sync(b".");
     } else {

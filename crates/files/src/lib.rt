@@ -2,7 +2,6 @@
 // to end, and to count within what they are lent.
 mod beside;
 mod in_place;
-mod path;
 mod read;
 mod say;
 mod system;

@@ -5,7 +5,6 @@
 use crate::beside;
 use crate::beside::Outcome;
 use crate::in_place;
-use crate::path;
 use crate::system;
 use crate::system::Standing;
 
@@ -36,7 +35,7 @@ fn store_new(name: &[u8], error: i32, text: &[u8]) -> bool {
     if name.len() == 0 {
         return false;
     }
-    if path::link_error(name) != libc::ENOENT {
+    if paths::link_error(name) != libc::ENOENT {
         return false;
     }
     if !system::allows(text.len()) {
@@ -81,7 +80,7 @@ fn replaced(name: &[u8], old: Standing, text: &[u8]) -> Outcome {
     if old.links != 1 {
         return Outcome::Forbidden;
     }
-    if path::link_error(name) != libc::EINVAL {
+    if paths::link_error(name) != libc::EINVAL {
         return Outcome::Forbidden;
     }
     beside::replace(name, old, text)

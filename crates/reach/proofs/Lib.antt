@@ -1,5 +1,4 @@
 -- `Means` is what a caller learns of a call that found its times; the files before it are for the proofs of the functions.
-pub mod Clearing
 pub mod Settling
 pub mod Records
 pub mod Fitting

@@ -23,7 +23,8 @@ use Rattle.solve.specs.declared.Solved.{Solved}
 use Rattle.solve.specs.declared.Solved.the-variants as Solved
 use Rattle.reach.specs.declared.Reached.{Reached}
 use Rattle.reach.specs.declared.Reached.the-variants.{Times, Refused, Misfit}
-use Rattle.reach.specs.Reach.{givenOf, reaches}
+use Rattle.clearance.specs.Clearance.{givenOf}
+use Rattle.reach.specs.Reach.{reaches}
 use Rattle.reach.specs.Lines.{Sized, asReached, SettledBy, fromLines}
 
 -- a trace that was read into a store

@@ -17,7 +17,8 @@ use Rattle.solve.specs.declared.Solved.the-variants as Solved
 use Rattle.solve.specs.Outcome.{solvedBy}
 use Rattle.reach.specs.declared.Reached.{Reached}
 use Rattle.reach.specs.declared.Reached.the-variants.{Times, Refused, Misfit}
-use Rattle.reach.specs.Reach.{givenOf, reaches}
+use Rattle.clearance.specs.Clearance.{givenOf}
+use Rattle.reach.specs.Reach.{reaches}
 
 -- slices for n records each; places are numbers of 32 bits
 pub record Sized (n : ℕ) (sends before latency : List ℕ) (times spare : List ℤ) : Type 0 where

@@ -9,7 +9,6 @@ use lib.Dec.{eqb}
 use Rattle.paper.specs.Answer as paper
 use Rattle.paper.specs.Answer.{Given, Found, stopped, found, reach}
 use Rattle.paper.specs.Matching.{entryAt, matchedCount, unreceivedCount}
-use Rattle.paper.specs.declared.Asked.{Asked}
 use Rattle.reading.specs.Starts.{startOf}
 use Rattle.store.specs.Layout.{entriesIn, startFrom}
 use Rattle.chains.specs.Places.{placesOf}
@@ -17,9 +16,6 @@ use Rattle.clock.specs.Promise.{allAre}
 use Rattle.answer.specs.declared.Counts.{Counts}
 use Rattle.reach.specs.declared.Reached.{Reached}
 use Rattle.reach.specs.declared.Reached.the-variants.{Times, Refused, Misfit}
-
-abbrev pub givenOf : (trace latencies : List ℕ) → Asked → ℕ → Given
-givenOf trace latencies asked places = record { trace = trace; latencies = latencies; asked = asked; places = places }
 
 -- the store and every slice are made for as many records as a call may list
 unfoldable pub fits : ℕ → ℕ → List ℕ → Bool

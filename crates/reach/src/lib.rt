@@ -1,6 +1,5 @@
 // How far a call comes: the refusals from 1 to 15, or the times. The records stay in the store, the places of their sends and their
 // times in two slices, for whatever ending the call has; nothing is looked at or touched that a caller gets to see.
-mod check;
 mod lines;
 
 ghost use mathlib.Core.Path.{_≡_};
@@ -8,9 +7,10 @@ ghost use mathlib.Core.List.{[], _∷_};
 ghost use lib.ListN.{length};
 ghost use Rattle.paper.specs.Answer.{most};
 ghost use Rattle.store.specs.Layout.{capacity};
-ghost use Rattle.reach.specs.Reach.{givenOf, fits, ReachedBy};
+ghost use Rattle.clearance.specs.Clearance.{givenOf};
+ghost use Rattle.reach.specs.Reach.{fits, ReachedBy};
 use answer::Counts;
-use check::Cleared;
+use clearance::Cleared;
 use paper::Asked;
 use paper::Fault;
 
@@ -70,7 +70,7 @@ pub fn reach(
     ) {
         return Reached::Misfit;
     }
-    match check::check(trace, latencies, asked, places) {
+    match clearance::check(trace, latencies, asked, places) {
         Cleared::Refused(fault) => Reached::Refused(fault, 0),
         Cleared::Under(choice) => {
             lines::read(

@@ -13,9 +13,9 @@ use Rattle.answer.specs.Answers.{refusal}
 use Rattle.table.specs.Table.{latenciesOf, Decoded}
 use Rattle.report.specs.declared.Said.{Said}
 use Rattle.report.specs.declared.Said.the-variants.{Answered, CannotRead, CannotWrite, TooMany}
-use Rattle.shell.specs.declared.arguments.Plan.{Plan}
-use Rattle.shell.specs.declared.arguments.Plan.the-variants as Plan
-use Rattle.shell.specs.Arguments.{planOf}
+use Rattle.arguments.specs.declared.Plan.{Plan}
+use Rattle.arguments.specs.declared.Plan.the-variants as Plan
+use Rattle.arguments.specs.Arguments.{planOf}
 use Rattle.shell.specs.Program.{storing, endOf, answerOf, onLatencies, onTable, fileOf, onFiles, onPlan, saidOf, ByStored, ByFiles}
 
 -- ---- the end

@@ -1,4 +1,3 @@
--- The program's own rules: what its arguments ask for, and what it says.
-pub mod Arguments
+-- What the program says.
 pub mod Program
 pub mod Judged

@@ -15,9 +15,9 @@ use Rattle.answer.specs.Answers.{refusal}
 use Rattle.table.specs.Table.{latenciesOf}
 use Rattle.report.specs.declared.Said.{Said}
 use Rattle.report.specs.declared.Said.the-variants as Said
-use Rattle.shell.specs.declared.arguments.Plan.{Plan}
-use Rattle.shell.specs.declared.arguments.Plan.the-variants.{BadChoice, TooMany, Unnamed, Judge}
-use Rattle.shell.specs.Arguments.{planOf}
+use Rattle.arguments.specs.declared.Plan.{Plan}
+use Rattle.arguments.specs.declared.Plan.the-variants.{BadChoice, TooMany, Unnamed, Judge}
+use Rattle.arguments.specs.Arguments.{planOf}
 
 -- ---- the end
 

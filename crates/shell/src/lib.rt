@@ -1,7 +1,6 @@
 // The program `cantuvesh CHOICE TRACE TABLE [OUT]`, as document 01 has it under "What the base covers". What it says is a function of
 // its arguments, of what its files hold and of whether OUT could be written (specs/Program.antt); the functions here ask the system for
 // these and print what is said.
-mod arguments;
 mod judged;
 mod print;
 

@@ -29,7 +29,8 @@ use Rattle.reading.proofs.Stamp.{Timed, timed-line}
 use Rattle.reading.proofs.Starts.{no-bytes, bytes-here, lines-next}
 use Rattle.store.specs.Layout.{entriesIn, entryFrom, startFrom}
 use Rattle.store.proofs.Laws.{length-entries, entry-in}
-use Rattle.writing.specs.Patched.{Move, movesFrom, stampOn, stampLength, inPlace, patched, bytesFor}
+use Rattle.stamps.specs.Stamps.{stampOn, stampLength, inPlace}
+use Rattle.writing.specs.Patched.{Move, movesFrom, patched, bytesFor}
 use Rattle.writing.proofs.Patches.{behind-some, HasForm, in-range, in-place, stamp-replaced}
 
 -- ---- a line with its time

@@ -13,10 +13,11 @@ use Rattle.paper.specs.Forms.{timeShown}
 use Rattle.shown.specs.Writes.{shownLength}
 use Rattle.shown.proofs.Stores.{sets-append}
 use Rattle.forms.proofs.Tests.{never}
-use Rattle.writing.specs.Patched.{inPlace, bytesFor}
+use Rattle.stamps.specs.Stamps.{inPlace, StampOf}
+use Rattle.stamps.specs.declared.Stamp.{Stamp}
+use Rattle.writing.specs.Patched.{bytesFor}
 use Rattle.writing.specs.Outcome.{roomAfter}
-use Rattle.writing.specs.Inner.{Next, StampOf, Held, Stored}
-use Rattle.writing.specs.declared.place.Stamp.{Stamp}
+use Rattle.writing.specs.Inner.{Next, Held, Stored}
 use Rattle.writing.proofs.Patches.{front-short, takes-some, place-told}
 use Rattle.writing.proofs.Going.{Going, Sound, going-start, all-told, misplaced, sound, more, onward}
 

@@ -10,9 +10,10 @@ use lib.Seq.{drop-drop, length-take-le}
 use lib.IntN.{ℤ, pos}
 use Rattle.paper.specs.Forms.{timeShown}
 use Rattle.shown.specs.Writes.{shownLength}
-use Rattle.writing.specs.Patched.{movesFrom, stampOn, stampLength, inPlace, behind, patched, bytesFor}
-use Rattle.writing.specs.Inner.{movesAt, Stops, Next, StampOf}
-use Rattle.writing.specs.declared.place.Stamp.{Stamp}
+use Rattle.stamps.specs.Stamps.{stampOn, stampLength, inPlace, StampOf}
+use Rattle.stamps.specs.declared.Stamp.{Stamp}
+use Rattle.writing.specs.Patched.{movesFrom, behind, patched, bytesFor}
+use Rattle.writing.specs.Inner.{movesAt, Stops, Next}
 use Rattle.writing.proofs.Patches.{behind-none, behind-some, behind-nothing, behind-both, takes-some, place-told, stamp-replaced, stamp-misplaced}
 
 -- At the head: the bytes up to `from` with their stamps replaced, and what is left behind them is the whole.

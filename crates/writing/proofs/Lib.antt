@@ -1,7 +1,6 @@
 -- The laws behind the contracts, and those of the written trace.
 pub mod Patches
 pub mod Moved
-pub mod Places
 pub mod Puts
 pub mod Going
 pub mod Sums

@@ -13,7 +13,8 @@ use Rattle.paper.specs.Forms.{timeShown}
 use Rattle.shown.specs.Writes.{shownLength}
 use Rattle.forms.proofs.Tests.{both, never}
 use Rattle.forms.proofs.Back.{shown-long, shown-short}
-use Rattle.writing.specs.Patched.{Move, stampOn, stampLength, inPlace, behind, patched}
+use Rattle.stamps.specs.Stamps.{stampOn, stampLength, inPlace}
+use Rattle.writing.specs.Patched.{Move, behind, patched}
 
 -- ---- bytes in front
 

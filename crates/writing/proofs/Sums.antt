@@ -7,10 +7,11 @@ use native.Mathlib.Omega.{arith}
 use lib.ListN.{length, getD, length-append, length-drop}
 use lib.IntN.{ℤ, pos}
 use Rattle.shown.specs.Writes.{shownLength}
-use Rattle.writing.specs.Patched.{inPlace, bytesFor}
-use Rattle.writing.specs.Inner.{Next, StampOf, Changed, changed, unfit}
+use Rattle.stamps.specs.Stamps.{inPlace, StampOf}
+use Rattle.stamps.specs.declared.Stamp.{Stamp}
+use Rattle.writing.specs.Patched.{bytesFor}
+use Rattle.writing.specs.Inner.{Next, Changed, changed, unfit}
 use Rattle.writing.specs.declared.measure.Change.the-variants.{Of, Unfit}
-use Rattle.writing.specs.declared.place.Stamp.{Stamp}
 use Rattle.writing.proofs.Going.{Going, Sound, going-start, all-told, misplaced, sound, word-length, onward}
 
 pub record Summing (s : List ℕ) (store : List ℕ) (times : List ℤ) (from gained lost k : ℕ) : Type 0 where

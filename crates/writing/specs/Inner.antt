@@ -6,8 +6,7 @@ use mathlib.Core.Option.{Option, none, some}
 use lib.ListN.{length, drop, getD}
 use lib.Seq.{sets}
 use lib.IntN.{ℤ, pos}
-use Rattle.writing.specs.Patched.{Move, movesFrom, stampOn, stampLength}
-use Rattle.writing.specs.declared.place.Stamp.{Stamp}
+use Rattle.writing.specs.Patched.{Move, movesFrom}
 use Rattle.writing.specs.declared.measure.Change.{Change}
 use Rattle.writing.specs.declared.measure.Change.the-variants.{Of, Unfit}
 
@@ -26,18 +25,6 @@ pub record Next (store : List ℕ) (times : List ℤ) (k r : ℕ) : Type 0 where
   pub low : k ≤ r
   pub stops : Stops store times r
   pub skips : movesAt store times k ≡ movesAt store times r
-
--- ---- places in the trace
-
--- the part of s from r on
-pub record Place (s part : List ℕ) (r : ℕ) : Type 0 where
-  pub inside : r ≤ length s
-  pub from : drop r s ≡ part
-
--- where the stamp of record i stands, and its length
-pub record StampOf (s : List ℕ) (store : List ℕ) (i : ℕ) (r : Stamp) : Type 0 where
-  pub place : Place s (stampOn s store i) (r .at)
-  pub long : r .long ≡ stampLength store i
 
 -- ---- lengths
 

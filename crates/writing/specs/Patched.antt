@@ -2,16 +2,15 @@
 -- without looking at a line whose record did not move.
 use Prim.Native.Nat.{ℕ, _+_, _-_}
 use mathlib.Core.List.{List, [], _∷_, _++_}
-use mathlib.Core.Bool.{Bool, cond, _&&_}
+use mathlib.Core.Bool.{cond}
 use mathlib.Core.Option.{Option, none, some, Option·map}
 use lib.ListN.{length, take, drop}
 use lib.IntN.{ℤ}
-use lib.Dec.{leb, ltb}
 use Rattle.paper.specs.Tests.{eqZ}
 use Rattle.paper.specs.Forms.{timeShown}
-use Rattle.paper.specs.Line.{after}
 use Rattle.shown.specs.Writes.{shownLength}
-use Rattle.store.specs.Layout.{entryFrom, startFrom}
+use Rattle.store.specs.Layout.{entryFrom}
+use Rattle.stamps.specs.Stamps.{stampOn, stampLength, inPlace}
 
 -- ---- the moved records
 
@@ -26,20 +25,6 @@ movesFrom store k [] = []
 movesFrom store k (t ∷ times) =
     let later = movesFrom store (k + 1) times in
     cond (eqZ (entryFrom store k .body .time) t) later (record { place = k; time = t } ∷ later)
-
--- ---- their stamps
-
--- the bytes from the timestamp of record i on: it is the third field of its line
-unfoldable pub stampOn : (s store : List ℕ) → ℕ → List ℕ
-stampOn s store i = after (after (drop (startFrom store i) s))
-
--- its length, since a time is written in one way only; none for a time that has no form
-unfoldable pub stampLength : List ℕ → ℕ → ℕ
-stampLength store i = shownLength (entryFrom store i .body .time)
-
--- a stamp of `old` bytes, from which on there are `there` bytes, stands within the last `left` bytes, and the new one has a form
-unfoldable pub inPlace : ℕ → ℕ → ℕ → ℕ → Bool
-inPlace left there old new = leb there left && leb old there && ltb 0 old && ltb 0 new
 
 -- ---- the bytes
 

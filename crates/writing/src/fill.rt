@@ -5,7 +5,6 @@ ghost use Rattle.writing.specs.Patched.{bytesFor};
 ghost use Rattle.writing.specs.Outcome.{roomAfter};
 ghost use Rattle.writing.specs.Inner.{Held};
 use crate::moves;
-use crate::place;
 use crate::put;
 
 pub(crate) fn fill(s: &[u8], store: &[u32], times: &[i64], room: &mut [u8])
@@ -16,7 +15,7 @@ pub(crate) fn fill(s: &[u8], store: &[u32], times: &[i64], room: &mut [u8])
     let mut to: usize = 0;
     let mut k = moves::next_moved(store, times, 0);
     while k < times.len() {
-        let stamp = place::stamp_of(s, store, k);
+        let stamp = stamps::stamp_of(s, store, k);
         let at = stamp.at;
         let end = at + stamp.long;
         to = put::put_run(room, to, &s[from..at], times[k]);

@@ -4,7 +4,6 @@
 mod fill;
 mod measure;
 mod moves;
-mod place;
 mod put;
 
 ghost use Rattle.writing.specs.Outcome.{WrittenInto};

@@ -1,12 +1,11 @@
 // How long the written trace is.
 ghost use mathlib.Core.Path.{_≡_};
 ghost use Prim.Native.Nat.{_+_, _-_};
-ghost use Rattle.writing.specs.Patched.{inPlace, bytesFor};
+ghost use Rattle.writing.specs.Patched.{bytesFor};
 ghost use Rattle.writing.specs.Outcome.{fitOf, answerOf};
 ghost use Rattle.writing.specs.Inner.{Changed};
 use crate::Written;
 use crate::moves;
-use crate::place;
 
 // The bytes of the shortest time. Only what goes beyond them is counted, so that no sum wraps.
 const LEAST: usize = 8;
@@ -17,22 +16,6 @@ pub(crate) enum Change {
     Unfit,
 }
 
-// A timestamp of `old` bytes, from which on there are `there` bytes, among the last `left`; its new one of `new` bytes.
-fn in_place(left: usize, there: usize, old: usize, new: usize) -> bool
-    ensures { λ r. ⌜ r ≡ inPlace left there old new ⌝ }
-{
-    if left < there {
-        return false;
-    }
-    if there < old {
-        return false;
-    }
-    if old == 0 {
-        return false;
-    }
-    0 < new
-}
-
 fn sum(s: &[u8], store: &[u32], times: &[i64]) -> Change
     ensures { λ r. ⌜ Changed (now (s .entry)) (bytesFor (now (s .entry)) (now (store .entry)) (now (times .entry))) r ⌝ }
 {
@@ -41,9 +24,9 @@ fn sum(s: &[u8], store: &[u32], times: &[i64]) -> Change
     let mut lost: usize = 0;
     let mut k = moves::next_moved(store, times, 0);
     while k < times.len() {
-        let stamp = place::stamp_of(s, store, k);
+        let stamp = stamps::stamp_of(s, store, k);
         let new = shown::shown_length(times[k]);
-        if !in_place(s.len() - from, s.len() - stamp.at, stamp.long, new) {
+        if !stamps::in_place(s.len() - from, s.len() - stamp.at, stamp.long, new) {
             return Change::Unfit;
         }
         gained += new - LEAST;

@@ -3,8 +3,9 @@ use native.Mathlib.Omega.{arith}
 use borrow.Author.Needs.{needs}
 use borrow.Author.Tests.{not-true, not-false}
 use Rattle.paper.specs.Answer.{most}
-use Rattle.reach.specs.Reach.{givenOf, reaches}
-use Rattle.reach.proofs.Clearing.{cleared-refused, cleared-reads}
+use Rattle.clearance.specs.Clearance.{givenOf}
+use Rattle.clearance.proofs.Clearing.{cleared-refused, cleared-reads}
+use Rattle.reach.specs.Reach.{reaches}
 use Rattle.reach.proofs.Fitting.{unfit, sized, answered, read-on}
 use Rattle.reach.proofs.reach.Statement.{statement}
 use Rattle.reach.proofs.reach.Tie as tie

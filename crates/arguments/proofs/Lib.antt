@@ -1,0 +1,2 @@
+-- The laws of the arguments.
+pub mod Planning

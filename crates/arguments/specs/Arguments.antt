@@ -1,0 +1,22 @@
+-- Document 01, "What the base covers": "its arguments are the choice, the trace's file, the table's file and, only if the written trace
+-- is wanted, a file for it". A count of arguments has the program's own name in it.
+use Prim.Native.Nat.{ℕ}
+use mathlib.Core.Bool.{cond}
+use mathlib.Core.List.{List, [], _∷_}
+use lib.Dec.{eqb, ltb}
+use Rattle.arguments.specs.declared.Plan.{Plan}
+use Rattle.arguments.specs.declared.Plan.the-variants.{BadChoice, TooMany, Unnamed, Judge}
+
+-- the choice that the first argument names, as bytes: 49 is the digit 1, 50 the digit 2; 0 for every other word, the empty one too
+unfoldable pub choiceNamed : List ℕ → ℕ
+choiceNamed [] = 0
+choiceNamed (byte ∷ []) = cond (eqb byte 49) 1 (cond (eqb byte 50) 2 0)
+choiceNamed (byte ∷ next ∷ rest) = 0
+
+-- "A first argument other than 1 or 2, or none, is refusal 1; after that a file that .. isn't named, gives the single line
+-- "cannot read"": and a fifth argument, which nothing asks for, is told before that. The fourth is the wish for the written trace.
+unfoldable pub planOf : (count : ℕ) → (first : List ℕ) → Plan
+planOf count first =
+    cond (eqb (choiceNamed first) 0)
+    BadChoice
+    (cond (ltb 5 count) TooMany (cond (ltb count 4) Unnamed (Judge (choiceNamed first) (ltb 4 count))))

@@ -1,0 +1,2 @@
+-- What the arguments ask for.
+pub mod Arguments

@@ -1,0 +1,2 @@
+-- "1 to 4".
+pub mod Clearance

@@ -1,0 +1,2 @@
+-- Where timestamps stand.
+pub mod Stamps
