@@ -1,10 +1,10 @@
-/* Cantuvesh: a proved reader and corrector of PICL event traces, as a static library.
+/* Cantuvesh: a proved reader and corrector of PICL event traces, as a library.
  *
- * Made by `rt staticlib ffi` as target/staticlib/libffi.a, for x86-64; link it after the objects
- * that call it. It needs no set-up, keeps nothing between calls, allocates nothing and may be
- * called from several threads at once, each with times and room of its own. A call takes some
- * 160,000 bytes of the calling thread's stack (155,128 as reference/stack measures it: at 2,048
- * records, the written trace wanted).
+ * ./library makes it for x86-64, as lib/libcantuvesh.a and lib/libcantuvesh.so beside
+ * include/cantuvesh.h, and prints the line that compiles a program with it. It needs no set-up, keeps
+ * nothing between calls, allocates nothing and may be called from several threads at once, each with
+ * times and room of its own. A call takes some 160,000 bytes of the calling thread's stack (155,128 as
+ * reference/stack measures it: at 2,048 records, the written trace wanted).
  */
 #ifndef CANTUVESH_H
 #define CANTUVESH_H
@@ -17,12 +17,15 @@
 extern "C" {
 #endif
 
+#define CANTUVESH_VERSION "0.1.0"
+
 /* The sizes of a call. */
 #define CANTUVESH_TRACE_LIMIT 65536     /* the most bytes that a trace may have */
 #define CANTUVESH_PROCESSORS 64         /* processors are 0 to 63 */
 #define CANTUVESH_LATENCIES 4096        /* the exact number of lent latencies */
 #define CANTUVESH_LATENCY_LIMIT 1000000 /* the highest latency, in microseconds */
 #define CANTUVESH_TIMES 2048            /* the exact number of lent times; the most listed records */
+#define CANTUVESH_ROOM 81920            /* so many bytes of room are enough for every written trace */
 
 /* What `asked.choice` may be. */
 #define CANTUVESH_STRICT 1  /* an unlisted line is refused */
@@ -54,22 +57,23 @@ struct cantuvesh_answer {
 /* Refusals, the first that holds in this order: 1 to 4; then 5 to 12 line by line, the first bad
  * line deciding; then the first receive in file order that calls for 13 or 14; then 15; then 16.
  *
- *    1  asked.choice is neither 1 nor 2
- *    2  the latencies are not 4,096, or the times not 2,048
- *    3  a latency above 1,000,000, whether a message uses it or not
- *    4  a trace above 65,536 bytes
- *    5  the form of a line, or of a field other than the timestamp
- *    6  the form of the timestamp
- *    7  an unlisted record type or event type, under strict
- *    8  a message event that is not handled, under either choice
- *    9  a listed record whose processor is outside 0 to 63, or whose process is not 0
- *   10  a send or a receive without its three good data
- *   11  a time below the last listed one of its processor
- *   12  listed record number 2,049
- *   13  a receive without a matching send
- *   14  a receive whose length differs from its send's
- *   15  no times satisfy the clock condition within the limits of a time
- *   16  the written trace is longer than the room; only where it was wanted
+ *    1  the choice is neither 1 (strict) nor 2 (lenient)
+ *    2  the table or the lent times have the wrong length
+ *    3  a latency is above 1,000,000
+ *    4  the trace is longer than 65,536 bytes
+ *    5  the form of the line, or of a field of it other than the timestamp, is bad (bad data too)
+ *    6  the form of the timestamp is bad
+ *    7  the record type or the event type is not listed, and the choice is strict
+ *    8  the event is a message event that is not handled, under either choice
+ *    9  a listed record's processor is outside 0 to 63, or its process is not 0
+ *   10  a send or a receive is without its three good data
+ *   11  the time is below the last listed one of its processor
+ *   12  there is a listed record number 2,049
+ *   13  the receive has no matching send
+ *   14  the receive's length differs from its send's
+ *   15  no times exist: a ring of waits has latencies that add up to more than 0, or a time would be
+ *       beyond the format's end
+ *   16  the written trace was wanted and is longer than the room
  */
 
 /* Judges one trace.
@@ -78,21 +82,22 @@ struct cantuvesh_answer {
  *     The bytes of the trace, each line ended by LF, the last one too. Any bytes may be lent, and any
  *     number of them: what is no good trace is refused.
  * latencies, latencies_len
- *     The least time that a message takes, in microseconds: the entry at 64 * sender + receiver.
+ *     The least time that a message takes, in microseconds: the entry at 64 * sender + receiver. They
+ *     are CANTUVESH_LATENCIES, none above CANTUVESH_LATENCY_LIMIT, whether a message uses it or not.
  * asked
  *     What the caller names, by value: in asked.choice CANTUVESH_STRICT or CANTUVESH_LENIENT.
  * times, times_len
  *     Where an accepted trace's corrected times go, in microseconds and in file order of the listed
- *     records: times[0] to times[listed - 1]. All later places are left as they were, and every
- *     place if the trace is refused.
+ *     records: times[0] to times[listed - 1] of CANTUVESH_TIMES places. All later ones are left as
+ *     they were, and every one if the trace is refused.
  * wanted
  *     Whether the written trace is wanted: the trace's bytes with the timestamp of each listed record
  *     replaced by its corrected time. Pass true or false, no other bits.
  * room, room_len
  *     Where the written trace goes, at its start: room[0] to room[written - 1]. It may be shorter
- *     than the trace, or longer by at most 8 bytes for each listed record, so 81,920 bytes are always
- *     enough. All later places are left as they were, and every place if the trace is refused or the
- *     written one is not wanted.
+ *     than the trace, or longer by at most 8 bytes for each listed record, so CANTUVESH_ROOM bytes are
+ *     always enough. All later places are left as they were, and every place if the trace is refused
+ *     or the written one is not wanted.
  *
  * No length is asked of the caller beyond what it says: a wrong one is refused (2, 4, 16). But every
  * pointer must be one to so many places as its length says, and not NULL even where that is 0;

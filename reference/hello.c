@@ -1,8 +1,5 @@
-/* Calls the static library from C: prints the report for trace A, all latencies 5.
- *
- *   rt staticlib ffi
- *   gcc -O2 -Wall -Wextra -I include -o target/hello reference/hello.c target/staticlib/libffi.a
- *   target/hello
+/* Calls the library from C: prints the report for trace A, all latencies 5. The line that ./library prints compiles it, with this
+ * file in the place of program.c.
  */
 #include "cantuvesh.h"
 

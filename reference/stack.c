@@ -1,9 +1,6 @@
 /* How much stack one call uses: a thread whose stack was painted beforehand makes the call, and the deepest byte that lost its paint
- * tells. The difference to a thread that does nothing is printed, in bytes, for the longest chain, written too.
- *
- *   rt staticlib ffi
- *   gcc -O2 -Wall -Wextra -I include -o target/stack reference/stack.c target/staticlib/libffi.a -pthread
- *   target/stack
+ * tells. The difference to a thread that does nothing is printed, in bytes, for the longest chain, written too. reference/stack
+ * compiles and runs it.
  */
 #include "cantuvesh.h"
 
@@ -19,7 +16,7 @@ static char trace[CANTUVESH_TRACE_LIMIT];
 static size_t trace_len;
 static uint32_t latencies[CANTUVESH_LATENCIES];
 static int64_t times[CANTUVESH_TIMES];
-static uint8_t room[81920];
+static uint8_t room[CANTUVESH_ROOM];
 static const struct cantuvesh_asked asked = {.choice = CANTUVESH_STRICT};
 static struct cantuvesh_answer answer;
 
