@@ -1,27 +1,17 @@
-//! Links the two programs that call the static library with the archive that the environment names, and
-//! bench with an older library, too, where the feature `before` asks for it.
+//! Links bench with an older library, too, where the feature `before` asks for it.
 
 use std::env;
 
 fn main() {
     println!("cargo::rerun-if-changed=build.rs");
-    if env::var_os("CARGO_FEATURE_ARCHIVE").is_some() {
-        link("CANTUVESH_ARCHIVE", &["compare", "bench"]);
+    println!("cargo::rerun-if-env-changed=CANTUVESH_BEFORE");
+    if env::var_os("CARGO_FEATURE_BEFORE").is_none() {
+        return;
     }
-    if env::var_os("CARGO_FEATURE_BEFORE").is_some() {
-        link("CANTUVESH_BEFORE", &["bench"]);
-    }
-}
-
-/// Links the file that this variable names.
-fn link(variable: &str, programs: &[&str]) {
-    println!("cargo::rerun-if-env-changed={variable}");
-    let Ok(file) = env::var(variable) else {
-        println!("cargo::error={variable} must name the library to link, as the scripts in reference/ do");
+    let Ok(object) = env::var("CANTUVESH_BEFORE") else {
+        println!("cargo::error=CANTUVESH_BEFORE must name the object to link, as reference/bench does");
         return;
     };
-    println!("cargo::rerun-if-changed={file}");
-    for program in programs {
-        println!("cargo::rustc-link-arg-bin={program}={file}");
-    }
+    println!("cargo::rerun-if-changed={object}");
+    println!("cargo::rustc-link-arg-bin=bench={object}");
 }

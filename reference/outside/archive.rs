@@ -1,47 +1,17 @@
-//! The static library behind a safe call. `include/cantuvesh.h` says what every argument means.
+//! The library as a judge: called by its binding, which gives the numbers as they are.
 
-/// Makes `judge` of a static library's one function, which is linked under this name.
-macro_rules! library {
-    ($symbol:ident) => {
-        use reference::{Answer, Asked, Inputs};
+use cantuvesh::raw::{self, Library};
+use reference::{Answer, Asked, Inputs};
 
-        unsafe extern "C" {
-            fn $symbol(
-                trace: *const u8,
-                trace_len: usize,
-                latencies: *const u32,
-                latencies_len: usize,
-                asked: Asked,
-                times: *mut i64,
-                times_len: usize,
-                wanted: bool,
-                room: *mut u8,
-                room_len: usize,
-            ) -> Answer;
-        }
-
-        /// Judges a trace by the static library. It takes slices of any length, so nothing is left to test.
-        pub fn judge(call: Inputs) -> Answer {
-            let Inputs { trace, latencies, asked, times, wanted, room } = call;
-            // SAFETY: each pointer comes with the length of its own slice, the two that are written to
-            // are lent alone for the time of the call, and what is asked and the answer are laid out
-            // alike in both declarations: one u32, and nine u64.
-            unsafe {
-                $symbol(
-                    trace.as_ptr(),
-                    trace.len(),
-                    latencies.as_ptr(),
-                    latencies.len(),
-                    asked,
-                    times.as_mut_ptr(),
-                    times.len(),
-                    wanted,
-                    room.as_mut_ptr(),
-                    room.len(),
-                )
-            }
-        }
-    };
+/// Judges a trace by the library.
+pub fn judge(call: Inputs) -> Answer {
+    judge_by(raw::LINKED, call)
 }
 
-library!(cantuvesh_judge);
+/// Judges a trace by one library or another.
+pub fn judge_by(library: Library, call: Inputs) -> Answer {
+    let Inputs { trace, latencies, asked: Asked { choice }, times, wanted, room } = call;
+    let raw::Answer { number, line, verdict, listed, passed, matched, unreceived, rounds, written } =
+        library.judge(trace, latencies, raw::Asked { choice }, times, wanted, room);
+    Answer { number, line, verdict, listed, passed, matched, unreceived, rounds, written }
+}

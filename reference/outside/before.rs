@@ -1,4 +1,16 @@
-//! An older static library behind the same safe call. `reference/bench` has given its function another
-//! name, so that it can be linked beside the new one.
+//! An older library as a judge. `reference/bench` has given its function another name, so that it can be
+//! linked beside the new one.
 
-library!(cantuvesh_judge_before);
+use crate::archive::judge_by;
+use cantuvesh::raw::Library;
+use reference::{Answer, Inputs};
+
+unsafe extern "C" {
+    fn cantuvesh_judge_before();
+}
+
+/// Judges a trace by the older library.
+pub fn judge(call: Inputs) -> Answer {
+    // SAFETY: this is the function of an older library with the same C call.
+    judge_by(unsafe { Library::at(cantuvesh_judge_before) }, call)
+}

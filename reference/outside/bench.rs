@@ -1,11 +1,10 @@
-//! Measures the static library beside the reference, and the two programs:
+//! Measures the library beside the reference, and the two programs:
 //! `bench MILLISECONDS [PROGRAM [BEFORE]]`, where each row is measured for so long and PROGRAM is
 //! Cantuvesh's own. An older library, linked by the feature `before`, and BEFORE, an older program, are
 //! measured in the same turns.
 //!
 //! All of them run on the same buffers, which are not cleared between calls.
 
-#[macro_use]
 mod archive;
 #[cfg(feature = "before")]
 mod before;

@@ -1,4 +1,4 @@
-//! Holds the static library against the reference: `compare [CASES [SEED]]`.
+//! Holds the library against the reference: `compare [CASES [SEED]]`.
 //!
 //! Case i has the seed SEED + i, so `compare 1 N` runs the case of seed N again. A case in which the
 //! two differ is written to files for the program and for the gate's list.
@@ -55,7 +55,7 @@ fn main() -> ExitCode {
 }
 
 fn show_failure(case: &Case, difference: &str, expected: &Answer) {
-    println!("seed {} ({}): the reference, then the static library: {difference}", case.seed, case.kind);
+    println!("seed {} ({}): the reference, then the library: {difference}", case.seed, case.kind);
     let Case { asked, times, wanted, room, offset, .. } = case;
     let latencies = case.latencies.len();
     let call = format!(

@@ -33,8 +33,7 @@ pub const MAX_RECORDS: usize = 2_048;
 /// The highest time, in microseconds; the lowest is its negative.
 pub const MAX_TIME: i64 = 999_999_999_999_999;
 
-/// What a caller gets back: the nine numbers that the static library returns, in its order.
-#[repr(C)]
+/// What a caller gets back: the paper's nine numbers.
 #[derive(Clone, Copy, Debug, Default, PartialEq, Eq)]
 pub struct Answer {
     /// 0 for an accepted trace, else the refusal.
@@ -52,9 +51,7 @@ pub struct Answer {
     pub written: u64,
 }
 
-/// What the caller names beside the trace and the table, in the static library's order; nothing in it
-/// has a default.
-#[repr(C)]
+/// What the caller names beside the trace and the table; nothing in it has a default.
 #[derive(Clone, Copy, Debug, PartialEq, Eq)]
 pub struct Asked {
     /// 1 strict, 2 lenient.

@@ -1,0 +1,28 @@
+//! Links the library that `./library` made: in the folder that CANTUVESH_LIBRARY names, or in the checkout's
+//! target/library.
+
+use std::env;
+use std::path::{Path, PathBuf};
+
+fn main() {
+    println!("cargo::rerun-if-changed=build.rs");
+    println!("cargo::rerun-if-env-changed=CANTUVESH_LIBRARY");
+    let named = env::var_os("CANTUVESH_LIBRARY").filter(|name| !name.is_empty()).map(PathBuf::from);
+    let folder = named.unwrap_or_else(|| Path::new(env!("CARGO_MANIFEST_DIR")).join("../../target/library"));
+    let archive = folder.join("lib/libcantuvesh.a");
+    println!("cargo::rerun-if-changed={}", archive.display());
+    if folder.is_relative() {
+        // Cargo runs this in the package's folder; whoever named it meant another.
+        println!("cargo::error=CANTUVESH_LIBRARY must be an absolute path, and is {}", folder.display());
+    } else if !archive.is_file() {
+        let missing = archive.display();
+        println!(
+            "cargo::error={missing} is not there: run ./library, or name its folder in CANTUVESH_LIBRARY"
+        );
+    }
+    if env::var("CARGO_CFG_TARGET_ARCH").is_ok_and(|target| target != "x86_64") {
+        println!("cargo::warning=the library is for x86-64, and nothing for another processor links with it");
+    }
+    println!("cargo::rustc-link-search=native={}", folder.join("lib").display());
+    println!("cargo::rustc-link-lib=static=cantuvesh");
+}

@@ -1,0 +1,152 @@
+//! Cantuvesh for Rust: reads an event trace of PICL, says whether its clocks agree with the messages in
+//! it, and where they do not gives the least later times at which all agree. The library behind it is
+//! proved; `./library` makes it.
+//!
+//! ```
+//! use cantuvesh::{Asked, Choice, Latencies, TIMES, Verdict, judge};
+//!
+//! let trace = b"-3 -21 0.000010 0 0 3 2 8 1 1
+//! -4 -21 0.000012 0 0 0
+//! -4 -52 0.000009 1 0 3 2 8 1 0
+//! -3 -21 0.000011 1 0 3 2 8 2 0
+//! -4 -51 0.000013 0 0 3 2 8 2 1
+//! ";
+//! let latencies = Latencies::everywhere(5);
+//! let mut times = [0; TIMES];
+//! let accepted = judge(trace, &latencies, Asked { choice: Choice::Strict }, &mut times, None)?;
+//! assert_eq!(accepted.verdict, Verdict::Corrected);
+//! assert_eq!(times[..accepted.listed], [10, 12, 15, 15, 20]);
+//! # Ok::<(), cantuvesh::Refused>(())
+//! ```
+//!
+//! The call keeps nothing, allocates nothing, and may be made from several threads at once. It takes
+//! some 160,000 bytes of the calling thread's stack.
+
+#![deny(missing_docs)]
+#![deny(unsafe_op_in_unsafe_fn)]
+#![deny(unsafe_code)]
+
+mod latencies;
+#[allow(unsafe_code)]
+pub mod raw;
+mod refusal;
+
+pub use latencies::Latencies;
+pub use refusal::{Refusal, Refused};
+
+use std::fmt;
+
+/// The most bytes that a trace may have.
+pub const TRACE_LIMIT: usize = 65_536;
+/// Processors are 0 to 63.
+pub const PROCESSORS: usize = 64;
+/// The exact number of latencies: one for each sender and receiver.
+pub const LATENCIES: usize = PROCESSORS * PROCESSORS;
+/// The highest latency, in microseconds.
+pub const LATENCY_LIMIT: u32 = 1_000_000;
+/// The exact number of lent times; the most listed records.
+pub const TIMES: usize = 2_048;
+/// So many bytes of room are enough for every written trace.
+pub const ROOM: usize = TRACE_LIMIT + 8 * TIMES;
+
+/// What to do with a line whose record type or event type is not listed. There is no default.
+#[derive(Clone, Copy, Debug, PartialEq, Eq, Hash)]
+pub enum Choice {
+    /// It is refused.
+    Strict = 1,
+    /// It is passed over, counted and left as it is.
+    Lenient = 2,
+}
+
+/// What the caller names beside the trace and the table. Nothing in it has a default: what is asked for
+/// later becomes a field, and a caller is compiled again only when it names that too.
+#[derive(Clone, Copy, Debug, PartialEq, Eq, Hash)]
+pub struct Asked {
+    /// What to do with an unlisted line.
+    pub choice: Choice,
+}
+
+/// What an accepted trace is.
+#[derive(Clone, Copy, Debug, PartialEq, Eq, Hash)]
+pub enum Verdict {
+    /// Messages matched, and no time had to move.
+    Consistent,
+    /// Messages matched, and some time moved.
+    Corrected,
+    /// No message matched.
+    NothingToJudge,
+}
+
+impl fmt::Display for Verdict {
+    fn fmt(&self, out: &mut fmt::Formatter) -> fmt::Result {
+        out.write_str(match self {
+            Verdict::Consistent => "consistent",
+            Verdict::Corrected => "corrected",
+            Verdict::NothingToJudge => "nothing to judge",
+        })
+    }
+}
+
+/// The answer on a trace that is accepted.
+#[derive(Clone, Copy, Debug, PartialEq, Eq, Hash)]
+pub struct Accepted {
+    /// What it is.
+    pub verdict: Verdict,
+    /// Listed records: so many of the lent times are written.
+    pub listed: usize,
+    /// Lines passed over.
+    pub passed: usize,
+    /// Messages, each a receive with its send.
+    pub matched: usize,
+    /// Sends that no receive belongs to.
+    pub unreceived: usize,
+    /// The first round of corrections that the next one repeats.
+    pub rounds: usize,
+    /// Bytes of the written trace, at the start of the room; 0 if it was not wanted.
+    pub written: usize,
+}
+
+/// Judges one trace.
+///
+/// - `trace` is any bytes: what is no good trace is refused.
+/// - `latencies` has at 64 · sender + receiver the least time that a message takes, in microseconds: a
+///   [`Latencies`], or any [`LATENCIES`] numbers.
+/// - `times` are [`TIMES`] places. An accepted trace's corrected times, in microseconds and in file
+///   order of the listed records, are `times[..accepted.listed]`.
+/// - `room`, if it is lent, gets the trace with these times: it is `room[..accepted.written]`. [`ROOM`]
+///   bytes are always enough.
+///
+/// All later places are left as they were, and every place if the trace is refused.
+///
+/// # Errors
+///
+/// The trace, or the whole call, is refused for one of the reasons that [`Refusal`] has.
+pub fn judge(
+    trace: &[u8],
+    latencies: &[u32],
+    asked: Asked,
+    times: &mut [i64],
+    room: Option<&mut [u8]>,
+) -> Result<Accepted, Refused> {
+    let Asked { choice } = asked;
+    let asked = raw::Asked { choice: choice as u32 };
+    let wanted = room.is_some();
+    let answer = raw::LINKED.judge(trace, latencies, asked, times, wanted, room.unwrap_or_default());
+    if answer.number != 0 {
+        return Err(Refused::numbered(answer.number, answer.line));
+    }
+    Ok(Accepted {
+        verdict: match answer.verdict {
+            1 => Verdict::Consistent,
+            2 => Verdict::Corrected,
+            3 => Verdict::NothingToJudge,
+            other => panic!("the library gave verdict {other}, which is none"),
+        },
+        listed: answer.listed as usize,
+        passed: answer.passed as usize,
+        matched: answer.matched as usize,
+        unreceived: answer.unreceived as usize,
+        rounds: answer.rounds as usize,
+        written: answer.written as usize,
+    })
+}

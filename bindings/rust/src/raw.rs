@@ -1,0 +1,105 @@
+//! The C call as it is: the structs and the function of `include/cantuvesh.h`, for any numbers and any
+//! lengths. This is the one place where the boundary is declared in Rust.
+
+use std::mem;
+
+/// `struct cantuvesh_asked`: what the caller names beside the trace and the table.
+#[repr(C)]
+#[derive(Clone, Copy, Debug, PartialEq, Eq)]
+pub struct Asked {
+    /// 1 strict, 2 lenient; all else is refusal 1.
+    pub choice: u32,
+}
+
+/// `struct cantuvesh_answer`: a refusal has its number and line, and 0 in all the rest.
+#[repr(C)]
+#[derive(Clone, Copy, Debug, PartialEq, Eq)]
+pub struct Answer {
+    /// 0 accepted, else the refusal.
+    pub number: u64,
+    /// The refused line, counted from 1; 0 where no line is meant.
+    pub line: u64,
+    /// 1 consistent, 2 corrected, 3 nothing to judge.
+    pub verdict: u64,
+    /// Listed records: so many of the lent times are written.
+    pub listed: u64,
+    /// Lines passed over.
+    pub passed: u64,
+    /// Messages, each a receive with its send.
+    pub matched: u64,
+    /// Sends that no receive belongs to.
+    pub unreceived: u64,
+    /// The first round of corrections that the next one repeats.
+    pub rounds: u64,
+    /// Bytes of the written trace; 0 if it was not wanted.
+    pub written: u64,
+}
+
+type Judge = unsafe extern "C" fn(
+    trace: *const u8,
+    trace_len: usize,
+    latencies: *const u32,
+    latencies_len: usize,
+    asked: Asked,
+    times: *mut i64,
+    times_len: usize,
+    wanted: bool,
+    room: *mut u8,
+    room_len: usize,
+) -> Answer;
+
+// Only where it is: its parameters stand in `Judge`.
+unsafe extern "C" {
+    fn cantuvesh_judge();
+}
+
+/// The library that this package is linked with.
+// SAFETY: this is the function of `include/cantuvesh.h`.
+pub const LINKED: Library = unsafe { Library::at(cantuvesh_judge) };
+
+/// A library, by its one function.
+#[derive(Clone, Copy, Debug)]
+pub struct Library(Judge);
+
+impl Library {
+    /// The library whose function is at this place, for one that is linked under another name: `unsafe
+    /// extern "C" { fn name(); }` declares as much of it as is needed.
+    ///
+    /// # Safety
+    ///
+    /// The function is declared in C as `cantuvesh_judge` is in `include/cantuvesh.h`, and does what is
+    /// said there.
+    pub const unsafe fn at(function: unsafe extern "C" fn()) -> Library {
+        // SAFETY: the caller knows that the function has these parameters.
+        Library(unsafe { mem::transmute::<unsafe extern "C" fn(), Judge>(function) })
+    }
+
+    /// Judges one trace, and gives the nine numbers as they are. `include/cantuvesh.h` says what every
+    /// argument means.
+    pub fn judge(
+        self,
+        trace: &[u8],
+        latencies: &[u32],
+        asked: Asked,
+        times: &mut [i64],
+        wanted: bool,
+        room: &mut [u8],
+    ) -> Answer {
+        // SAFETY: each pointer comes with the length of its own slice, the two that are written to are
+        // lent alone for the time of the call, and the function takes slices of any length.
+        unsafe {
+            self.0(
+                trace.as_ptr(),
+                trace.len(),
+                latencies.as_ptr(),
+                latencies.len(),
+                asked,
+                times.as_mut_ptr(),
+                times.len(),
+                wanted,
+                room.as_mut_ptr(),
+                room.len(),
+            )
+        }
+    }
+}

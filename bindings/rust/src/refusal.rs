@@ -1,0 +1,95 @@
+//! Why a trace, or a whole call, is refused.
+
+use std::error::Error;
+use std::fmt;
+use std::num::NonZero;
+
+/// Makes the enum of its cases, each with its number and its sentence.
+macro_rules! refusals {
+    ($($name:ident = $number:literal $sentence:literal)*) => {
+        /// The reason of a refusal; each has the number that the paper and the C call give it. More may
+        /// follow.
+        #[derive(Clone, Copy, Debug, PartialEq, Eq, Hash)]
+        #[non_exhaustive]
+        pub enum Refusal {
+            $(#[doc = concat!($number, ": ", $sentence, ".")] $name = $number,)*
+        }
+
+        impl Refusal {
+            fn numbered(number: u64) -> Option<Refusal> {
+                match number {
+                    $($number => Some(Refusal::$name),)*
+                    _ => None,
+                }
+            }
+
+            /// What it means, in a person's words.
+            pub fn sentence(self) -> &'static str {
+                match self {
+                    $(Refusal::$name => $sentence,)*
+                }
+            }
+        }
+    };
+}
+
+refusals! {
+    Choice = 1 "the choice is neither 1 (strict) nor 2 (lenient)"
+    Lengths = 2 "the table or the lent times have the wrong length"
+    Latency = 3 "a latency is above 1,000,000"
+    TraceTooLong = 4 "the trace is longer than 65,536 bytes"
+    Form = 5 "the form of the line, or of a field of it other than the timestamp, is bad (bad data too)"
+    Timestamp = 6 "the form of the timestamp is bad"
+    Unlisted = 7 "the record type or the event type is not listed, and the choice is strict"
+    NotHandled = 8 "the event is a message event that is not handled, under either choice"
+    Place = 9 "a listed record's processor is outside 0 to 63, or its process is not 0"
+    MessageData = 10 "a send or a receive is without its three good data"
+    Order = 11 "the time is below the last listed one of its processor"
+    TooManyRecords = 12 "there is a listed record number 2,049"
+    NoSend = 13 "the receive has no matching send"
+    OtherLength = 14 "the receive's length differs from its send's"
+    NoTimes = 15 "no times exist: a ring of waits has latencies that add up to more than 0, or a time would be beyond the format's end"
+    RoomTooShort = 16 "the written trace was wanted and is longer than the room"
+}
+
+impl Refusal {
+    /// Its number, from 1.
+    pub fn number(self) -> u64 {
+        self as u64
+    }
+}
+
+impl fmt::Display for Refusal {
+    fn fmt(&self, out: &mut fmt::Formatter) -> fmt::Result {
+        out.write_str(self.sentence())
+    }
+}
+
+/// The answer on a trace, or a whole call, that is refused.
+#[derive(Clone, Copy, Debug, PartialEq, Eq, Hash)]
+pub struct Refused {
+    /// The reason.
+    pub refusal: Refusal,
+    /// The line that it means, counted from 1; none where the whole call is meant.
+    pub line: Option<NonZero<u64>>,
+}
+
+impl Refused {
+    pub(crate) fn numbered(number: u64, line: u64) -> Refused {
+        let refusal = Refusal::numbered(number);
+        let refusal = refusal.unwrap_or_else(|| panic!("the library gave refusal {number}, which is none"));
+        Refused { refusal, line: NonZero::new(line) }
+    }
+}
+
+impl fmt::Display for Refused {
+    fn fmt(&self, out: &mut fmt::Formatter) -> fmt::Result {
+        write!(out, "refused {}", self.refusal.number())?;
+        if let Some(line) = self.line {
+            write!(out, " line {line}")?;
+        }
+        write!(out, ": {}", self.refusal)
+    }
+}
+
+impl Error for Refused {}

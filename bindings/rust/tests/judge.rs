@@ -1,0 +1,176 @@
+//! The samples, one call for each refusal, and what is said of it.
+
+use cantuvesh::Refusal::{self, *};
+use cantuvesh::{
+    Accepted, Asked, Choice, LATENCIES, LATENCY_LIMIT, Latencies, ROOM, Refused, TIMES, TRACE_LIMIT, Verdict,
+    judge, raw,
+};
+use std::num::NonZero;
+
+const TRACE_A: &[u8] = include_bytes!("../../../samples/a.picl");
+const TRACE_B: &[u8] = include_bytes!("../../../samples/b.picl");
+const SILENT: &[u8] = include_bytes!("../../../samples/silent.picl");
+
+const STRICT: Asked = Asked { choice: Choice::Strict };
+const LENIENT: Asked = Asked { choice: Choice::Lenient };
+
+/// Stands in every lent place beforehand; no time of a sample.
+const UNTOUCHED: i64 = -7;
+
+/// The answer, and the times that it gives; no other place is touched.
+fn judged(
+    trace: &[u8],
+    latencies: &[u32],
+    asked: Asked,
+    room: Option<&mut [u8]>,
+) -> (Result<Accepted, Refused>, Vec<i64>) {
+    let mut times = vec![UNTOUCHED; TIMES];
+    let answer = judge(trace, latencies, asked, &mut times, room);
+    let listed = answer.map_or(0, |accepted| accepted.listed);
+    assert!(times[listed..].iter().all(|&time| time == UNTOUCHED));
+    times.truncate(listed);
+    (answer, times)
+}
+
+#[test]
+fn trace_a_is_corrected() {
+    let (answer, times) = judged(TRACE_A, &Latencies::everywhere(5), STRICT, None);
+    let verdict = Verdict::Corrected;
+    assert_eq!(
+        answer,
+        Ok(Accepted { verdict, listed: 5, passed: 0, matched: 2, unreceived: 0, rounds: 3, written: 0 })
+    );
+    assert_eq!(times, [10, 12, 15, 15, 20]);
+}
+
+#[test]
+fn its_written_trace_is_consistent() {
+    let mut room = [b'?'; ROOM];
+    let (answer, times) = judged(TRACE_A, &Latencies::everywhere(5), STRICT, Some(&mut room));
+    let written = answer.unwrap().written;
+    assert_eq!(written, TRACE_A.len());
+    assert!(room[written..].iter().all(|&byte| byte == b'?'));
+    let (again, same_times) = judged(&room[..written], &Latencies::everywhere(5), STRICT, None);
+    assert_eq!(again.unwrap().verdict, Verdict::Consistent);
+    assert_eq!(times, same_times);
+}
+
+#[test]
+fn the_longest_written_trace_has_room() {
+    let mut trace = b"-3 -21 999999999.999999 0 0 3 2 8 1 1\n-4 -52 0.000000 1 0 3 2 8 1 0\n".to_vec();
+    trace.extend(b"0 0 0.000000 1 0 0\n".repeat(TIMES - 2));
+    trace.extend(b"-5 0 0.000000 0 0 1 ");
+    trace.resize(TRACE_LIMIT - 1, b'x');
+    trace.push(b'\n');
+    let mut room = vec![0; ROOM];
+    let (answer, _) = judged(&trace, &Latencies::everywhere(0), LENIENT, Some(&mut room));
+    assert_eq!(answer.unwrap().written, TRACE_LIMIT + 8 * (TIMES - 1));
+}
+
+#[test]
+fn without_messages_there_is_nothing_to_judge() {
+    for (trace, listed) in [(SILENT, 6), (b"", 0)] {
+        let (answer, _) = judged(trace, &Latencies::everywhere(5), STRICT, None);
+        let accepted = answer.unwrap();
+        assert_eq!(
+            (accepted.verdict, accepted.listed, accepted.matched),
+            (Verdict::NothingToJudge, listed, 0)
+        );
+        assert_eq!(accepted.verdict.to_string(), "nothing to judge");
+    }
+}
+
+#[test]
+fn lenient_passes_over_what_strict_refuses() {
+    let trace = b"-5 0 0.000000 0 0 0\n";
+    assert_eq!(refused(trace), (Unlisted, 1));
+    assert_eq!(judged(trace, &Latencies::everywhere(0), LENIENT, None).0.unwrap().passed, 1);
+}
+
+fn reason(answer: Result<Accepted, Refused>) -> (Refusal, u64) {
+    let Refused { refusal, line } = answer.unwrap_err();
+    (refusal, line.map_or(0, NonZero::get))
+}
+
+/// Reason and line, under strict and without latencies.
+fn refused(trace: &[u8]) -> (Refusal, u64) {
+    reason(judged(trace, &Latencies::everywhere(0), STRICT, None).0)
+}
+
+#[test]
+fn refusals_of_the_whole_call() {
+    let none = Latencies::everywhere(0);
+    assert_eq!(reason(judged(b"", &[0; LATENCIES - 1], STRICT, None).0), (Lengths, 0));
+    assert_eq!(reason(judge(b"", &none, STRICT, &mut [], None)), (Lengths, 0));
+    assert_eq!(reason(judged(b"", &Latencies::everywhere(LATENCY_LIMIT + 1), STRICT, None).0), (Latency, 0));
+    assert_eq!(refused(&[b'\n'; TRACE_LIMIT + 1]), (TraceTooLong, 0));
+    let mut latencies = none.clone();
+    latencies[(0, 1)] = 1;
+    assert_eq!(reason(judged(TRACE_B, &latencies, STRICT, None).0), (NoTimes, 0));
+    let mut room = [b'?'; 3];
+    assert_eq!(reason(judged(TRACE_A, &none, STRICT, Some(&mut room)).0), (RoomTooShort, 0));
+    assert_eq!(room, [b'?'; 3]);
+}
+
+#[test]
+fn refusals_of_a_line() {
+    assert_eq!(refused(b"0 0 0.000000 0 0 0\nx\n"), (Form, 2));
+    assert_eq!(refused(b"0 0 -0.000000 0 0 0\n"), (Timestamp, 1));
+    assert_eq!(refused(b"0 -60 0.000000 0 0 0\n"), (NotHandled, 1));
+    assert_eq!(refused(b"0 0 0.000000 64 0 0\n"), (Place, 1));
+    assert_eq!(refused(b"-3 -21 0.000000 0 0 0\n"), (MessageData, 1));
+    assert_eq!(refused(b"0 0 0.000001 0 0 0\n0 0 0.000000 0 0 0\n"), (Order, 2));
+    assert_eq!(refused(&b"0 0 0.000000 0 0 0\n".repeat(TIMES + 1)), (TooManyRecords, 2_049));
+    assert_eq!(refused(b"-4 -52 0.000000 1 0 3 2 8 1 0\n"), (NoSend, 1));
+    assert_eq!(refused(b"-4 -52 0.000000 1 0 3 2 8 1 0\n-3 -21 0.000000 0 0 3 2 7 1 1\n"), (OtherLength, 1));
+}
+
+#[test]
+fn a_refusal_says_its_number_its_line_and_its_sentence() {
+    let of_a_line = judged(b"-5 0 0.000000 0 0 0\n", &Latencies::everywhere(0), STRICT, None).0.unwrap_err();
+    let sentence = "the record type or the event type is not listed, and the choice is strict";
+    assert_eq!(of_a_line.to_string(), format!("refused 7 line 1: {sentence}"));
+    assert_eq!(of_a_line.refusal.to_string(), sentence);
+    let of_all: Box<dyn std::error::Error> = judged(b"", &[], STRICT, None).0.unwrap_err().into();
+    assert_eq!(of_all.to_string(), "refused 2: the table or the lent times have the wrong length");
+}
+
+#[test]
+fn raw_gives_the_numbers_as_they_are() {
+    let none = raw::Answer {
+        number: 0,
+        line: 0,
+        verdict: 0,
+        listed: 0,
+        passed: 0,
+        matched: 0,
+        unreceived: 0,
+        rounds: 0,
+        written: 0,
+    };
+    let call = |choice, trace, latencies: &[u32], times: usize| {
+        raw::LINKED.judge(trace, latencies, raw::Asked { choice }, &mut vec![0; times], true, &mut [0; ROOM])
+    };
+    for choice in [0, 3, u32::MAX] {
+        assert_eq!(call(choice, TRACE_A, &[], 0), raw::Answer { number: Refusal::Choice.number(), ..none });
+    }
+    assert_eq!(call(1, b"", &[], 0), raw::Answer { number: 2, ..none });
+    assert_eq!(call(1, b"x\n", &[0; LATENCIES], TIMES), raw::Answer { number: 5, line: 1, ..none });
+    let accepted = raw::Answer { verdict: 2, listed: 5, matched: 2, rounds: 3, written: 142, ..none };
+    assert_eq!(call(1, TRACE_A, &[5; LATENCIES], TIMES), accepted);
+}
+
+#[test]
+fn latencies_stand_at_their_pair() {
+    let mut latencies = Latencies::everywhere(3);
+    latencies[(2, 5)] = 9;
+    assert_eq!((latencies[(2, 5)], latencies[(5, 2)]), (9, 3));
+    let places: Vec<usize> = (0..latencies.len()).filter(|&place| latencies.get(place) == Some(&9)).collect();
+    assert_eq!((latencies.len(), places), (4_096, vec![64 * 2 + 5]));
+}
+
+#[test]
+#[should_panic(expected = "0 to 63")]
+fn no_pair_of_processors() {
+    Latencies::everywhere(0)[(0, 64)] = 1;
+}
