@@ -1,0 +1,209 @@
+"""Cantuvesh for Python: reads an event trace of PICL, says whether its clocks agree with the messages in it, and where they do
+not gives the least later times at which all agree. The library behind it is proved; ./library makes it.
+
+>>> import cantuvesh
+>>> trace = b'''-3 -21 0.000010 0 0 3 2 8 1 1
+... -4 -21 0.000012 0 0 0
+... -4 -52 0.000009 1 0 3 2 8 1 0
+... -3 -21 0.000011 1 0 3 2 8 2 0
+... -4 -51 0.000013 0 0 3 2 8 2 1
+... '''
+>>> answer = cantuvesh.judge(trace, cantuvesh.table({}, default=5), "strict")
+>>> answer.verdict, answer.matched, list(answer.times)
+('corrected', 2, [10, 12, 15, 15, 20])
+
+The library is looked for in the folder that CANTUVESH_LIBRARY names, else in the checkout's target/library. A call keeps nothing
+and may be made from several threads at once; it takes some 160,000 bytes of the calling thread's stack.
+"""
+
+from __future__ import annotations
+
+import ctypes
+import os
+from array import array
+from collections.abc import Mapping
+from dataclasses import dataclass
+from pathlib import Path
+from typing import Literal
+
+TRACE_LIMIT = 65_536  # the most bytes that a trace may have
+PROCESSORS = 64  # processors are 0 to 63
+LATENCIES = PROCESSORS * PROCESSORS  # the exact number of latencies in a table
+LATENCY_LIMIT = 1_000_000  # the highest latency, in microseconds
+TIMES = 2_048  # the most listed records
+ROOM = TRACE_LIMIT + 8 * TIMES  # so many bytes are enough for every written trace
+
+Choice = Literal["strict", "lenient"]
+Verdict = Literal["consistent", "corrected", "nothing to judge"]
+
+_CHOICES: dict[Choice, int] = {"strict": 1, "lenient": 2}
+_VERDICTS: dict[int, Verdict] = {1: "consistent", 2: "corrected", 3: "nothing to judge"}
+
+_SENTENCES = {
+    1: "the choice is neither 1 (strict) nor 2 (lenient)",
+    2: "the table or the lent times have the wrong length",
+    3: "a latency is above 1,000,000",
+    4: "the trace is longer than 65,536 bytes",
+    5: "the form of the line, or of a field of it other than the timestamp, is bad (bad data too)",
+    6: "the form of the timestamp is bad",
+    7: "the record type or the event type is not listed, and the choice is strict",
+    8: "the event is a message event that is not handled, under either choice",
+    9: "a listed record's processor is outside 0 to 63, or its process is not 0",
+    10: "a send or a receive is without its three good data",
+    11: "the time is below the last listed one of its processor",
+    12: "there is a listed record number 2,049",
+    13: "the receive has no matching send",
+    14: "the receive's length differs from its send's",
+    15: "no times exist: a ring of waits has latencies that add up to more than 0, or a time would be beyond the format's end",
+    16: "the written trace was wanted and is longer than the room",
+}
+
+
+@dataclass(frozen=True)
+class Accepted:
+    """The answer on a trace that is accepted.
+
+    verdict     "consistent", no time had to move; "corrected", some time moved; "nothing to judge", no message matched
+    listed      listed records
+    passed      lines passed over
+    matched     messages, each a receive with its send
+    unreceived  sends that no receive belongs to
+    rounds      the first round of corrections that the next one repeats
+    times       the corrected times in microseconds, an array("q") with one for each listed record, in file order
+    written     the trace with these times, or None where it was not asked for
+    """
+
+    verdict: Verdict
+    listed: int
+    passed: int
+    matched: int
+    unreceived: int
+    rounds: int
+    times: array[int]
+    written: bytes | None
+
+
+class Refused(Exception):
+    """The trace, or the whole call, is refused: `number` and `sentence` say why, and `line`, counted from 1, says where. It is 0
+    where the whole call is meant."""
+
+    def __init__(self, number: int, line: int) -> None:
+        super().__init__(number, line)
+        self.number = number
+        self.line = line
+        self.sentence = _SENTENCES[number]
+
+    def __str__(self) -> str:
+        where = f" line {self.line}" if self.line else ""
+        return f"refused {self.number}{where}: {self.sentence}"
+
+
+def table(latencies: Mapping[tuple[int, int], int], *, default: int) -> array[int]:
+    """A table of latencies: from (sender, receiver) to the least microseconds that a message takes. A pair that is not named has
+    the default, which has to be said.
+
+    >>> fives = table({}, default=5)
+    >>> one_way = table({(0, 1): 1}, default=0)
+
+    A table file needs nothing of this: it is read by `array("I", file.read())`.
+    """
+    entries = array("I", [_latency(default, "the default")]) * LATENCIES
+    for pair, latency in latencies.items():
+        if not (isinstance(pair, tuple) and len(pair) == 2 and all(_is_whole(end, PROCESSORS - 1) for end in pair)):
+            raise ValueError(f"{pair!r} should be (sender, receiver), two processors from 0 to 63")
+        sender, receiver = pair
+        entries[PROCESSORS * sender + receiver] = _latency(latency, f"the latency from {sender} to {receiver}")
+    return entries
+
+
+def judge(
+    trace: bytes | bytearray | memoryview, table: array[int] | memoryview, choice: Choice, *, written: bool = False
+) -> Accepted:
+    """Judges one trace, and raises Refused where it is refused.
+
+    trace    bytes, or whatever lends contiguous bytes; any may be given: what is no good trace is refused
+    table    the latencies as `table` makes them, or whatever lends contiguous unsigned numbers of 32 bits
+    choice   "strict" or "lenient": whether a line whose record type or event type is not listed is refused or passed over
+    written  whether the trace with the corrected times is wanted, too
+    """
+    if choice not in _CHOICES:
+        raise ValueError(f'the choice should be "strict" or "lenient", and is {choice!r}')
+    # Other threads run during the call: what it reads is copied, so that they cannot change it.
+    text = bytes(_lent(trace, "the trace", {"B", "b", "c"}, "contiguous bytes"))
+    entries = _lent(table, "the table", {"I"}, "contiguous unsigned numbers of 32 bits, as cantuvesh.table makes them")
+    latencies = (ctypes.c_uint32 * (entries.nbytes // 4)).from_buffer_copy(entries)
+    times = (ctypes.c_int64 * TIMES)()
+    room = (ctypes.c_char * (ROOM if written else 0))()
+
+    asked = _Asked(choice=_CHOICES[choice])
+    answer = _judge(
+        text, len(text), latencies, len(latencies), asked, times, len(times), bool(written), room, len(room)
+    )
+    if answer.number != 0:
+        raise Refused(answer.number, answer.line)
+    return Accepted(
+        verdict=_VERDICTS[answer.verdict],
+        listed=answer.listed,
+        passed=answer.passed,
+        matched=answer.matched,
+        unreceived=answer.unreceived,
+        rounds=answer.rounds,
+        times=array("q", times[: answer.listed]),
+        written=room[: answer.written] if written else None,
+    )
+
+
+def _is_whole(value: object, limit: int) -> bool:
+    return isinstance(value, int) and not isinstance(value, bool) and 0 <= value <= limit
+
+
+def _latency(value: int, what: str) -> int:
+    if not _is_whole(value, LATENCY_LIMIT):
+        raise ValueError(f"{what} should be a whole number of microseconds from 0 to 1,000,000, and is {value!r}")
+    return value
+
+
+def _lent(buffer: object, what: str, formats: set[str], kind: str) -> memoryview:
+    """What a buffer lends, if its items are of one of these formats and stand side by side."""
+    try:
+        view = memoryview(buffer)  # type: ignore[arg-type]
+    except TypeError:
+        raise TypeError(f"{what} should be {kind}, and is of type {type(buffer).__name__}") from None
+    if not view.c_contiguous or view.format.lstrip("@=<") not in formats:
+        raise TypeError(f"{what} should be {kind}")
+    return view
+
+
+# include/cantuvesh.h for ctypes.
+
+
+class _Asked(ctypes.Structure):
+    _fields_ = [("choice", ctypes.c_uint32)]
+
+
+class _Answer(ctypes.Structure):
+    _fields_ = [
+        (name, ctypes.c_uint64)
+        for name in ("number", "line", "verdict", "listed", "passed", "matched", "unreceived", "rounds", "written")
+    ]
+
+
+def _loaded() -> ctypes.CDLL:
+    beside = Path(__file__).resolve().parent / "../../target/library"
+    folder = Path(os.environ.get("CANTUVESH_LIBRARY") or beside).resolve()
+    try:
+        return ctypes.CDLL(str(folder / "lib/libcantuvesh.so"))
+    except OSError as error:
+        raise ImportError(f"{error}: run ./library, which makes it for x86-64, or name its folder in CANTUVESH_LIBRARY") from error
+
+
+_judge = _loaded().cantuvesh_judge
+_judge.restype = _Answer
+_judge.argtypes = [
+    *(ctypes.c_char_p, ctypes.c_size_t),  # the trace
+    *(ctypes.POINTER(ctypes.c_uint32), ctypes.c_size_t),  # the latencies
+    _Asked,
+    *(ctypes.POINTER(ctypes.c_int64), ctypes.c_size_t),  # the times
+    ctypes.c_bool,
+    *(ctypes.POINTER(ctypes.c_char), ctypes.c_size_t),  # the room
+]

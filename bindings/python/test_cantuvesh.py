@@ -1,0 +1,205 @@
+"""The samples, one call for each refusal that can be reached, and what a careless caller hands over. Run by ./test."""
+
+from __future__ import annotations
+
+import doctest
+import mmap
+import os
+import pickle
+import subprocess
+import sys
+import tempfile
+import unittest
+from array import array
+from concurrent.futures import ThreadPoolExecutor
+from dataclasses import FrozenInstanceError
+from pathlib import Path
+
+import cantuvesh
+from cantuvesh import Refused, judge, table
+
+SAMPLES = Path(__file__).resolve().parents[2] / "samples"
+TRACE_A = (SAMPLES / "a.picl").read_bytes()
+TRACE_B = (SAMPLES / "b.picl").read_bytes()
+SILENT = (SAMPLES / "silent.picl").read_bytes()
+ZEROS = table({}, default=0)
+FIVES = table({}, default=5)
+CORRECTED_A = array("q", [10, 12, 15, 15, 20])
+
+
+class Judging(unittest.TestCase):
+    def test_trace_a(self):
+        answer = judge(TRACE_A, FIVES, "strict")
+        counts = (answer.listed, answer.passed, answer.matched, answer.unreceived, answer.rounds)
+        self.assertEqual((answer.verdict, counts), ("corrected", (5, 0, 2, 0, 3)))
+        self.assertEqual(answer.times, CORRECTED_A)
+        self.assertEqual(answer.times.typecode, "q")
+        self.assertIsNone(answer.written)
+
+    def test_its_written_trace_is_consistent(self):
+        written = judge(TRACE_A, FIVES, "strict", written=True).written
+        self.assertEqual(written, TRACE_A.replace(b".000009", b".000015").replace(b".000011", b".000015").replace(b".000013", b".000020"))
+        again = judge(written, FIVES, "strict", written=True)
+        self.assertEqual((again.verdict, again.rounds, again.times, again.written), ("consistent", 0, CORRECTED_A, written))
+
+    def test_a_written_trace_above_the_limit(self):
+        """Every listed record but the first gets eight bytes longer."""
+        trace = b"-3 -21 999999999.999999 0 0 3 2 8 1 1\n-4 -52 0.000000 1 0 3 2 8 1 0\n" + b"0 0 0.000000 1 0 0\n" * 2_046
+        trace += b"-5 0 0.000000 0 0 1 ".ljust(65_535 - len(trace), b"x") + b"\n"
+        written = judge(trace, ZEROS, "lenient", written=True).written
+        self.assertEqual(len(written), 65_536 + 8 * 2_047)
+        self.assertEqual(written, trace.replace(b" 0.000000 1", b" 999999999.999999 1"))
+
+    def test_nothing_to_judge(self):
+        silent = judge(SILENT, FIVES, "strict")
+        self.assertEqual((silent.verdict, silent.listed, silent.matched, len(silent.times)), ("nothing to judge", 6, 0, 6))
+        empty = judge(b"", FIVES, "strict", written=True)
+        self.assertEqual((empty.verdict, empty.times, empty.written), ("nothing to judge", array("q"), b""))
+
+    def test_lenient_passes_over_what_strict_refuses(self):
+        trace = TRACE_A + b"-5 0 0.000000 0 0 0\n"
+        lenient = judge(trace, FIVES, "lenient")
+        self.assertEqual((lenient.passed, lenient.times), (1, CORRECTED_A))
+        with self.assertRaises(Refused) as raised:
+            judge(trace, FIVES, choice="strict")
+        self.assertEqual((raised.exception.number, raised.exception.line), (7, 6))
+
+    def test_an_answer_stays_as_it_is(self):
+        with self.assertRaises(FrozenInstanceError):
+            judge(TRACE_A, FIVES, "strict").verdict = "consistent"
+
+    def test_several_threads_at_once(self):
+        """One trace for each sender, whose time tells which it was."""
+        traces = [f"-3 -21 0.{micros:06} 0 0 3 2 8 1 1\n-4 -52 0.000000 1 0 3 2 8 1 0\n".encode() for micros in range(400)]
+        with ThreadPoolExecutor(8) as threads:
+            answers = list(threads.map(lambda trace: judge(trace, FIVES, "strict"), traces))
+        self.assertEqual([list(answer.times) for answer in answers], [[micros, micros + 5] for micros in range(400)])
+
+
+class Refusing(unittest.TestCase):
+    def refused(self, number, line, trace, latencies=ZEROS):
+        with self.assertRaises(Refused) as raised:
+            judge(trace, latencies, "strict", written=True)
+        self.assertEqual((raised.exception.number, raised.exception.line), (number, line))
+        return raised.exception
+
+    def test_every_number_that_can_be_reached(self):
+        """Not 1, since no other choice gets as far as the call, and not 16, since there is always room."""
+        self.refused(2, 0, b"", ZEROS[1:])
+        self.refused(2, 0, b"", ZEROS + ZEROS)
+        self.refused(2, 0, b"", array("I"))
+        self.refused(3, 0, b"", ZEROS[1:] + array("I", [1_000_001]))
+        self.refused(4, 0, b"\n" * 65_537)
+        self.refused(5, 2, b"0 0 0.000000 0 0 0\nx\n")
+        self.refused(6, 1, b"0 0 -0.000000 0 0 0\n")
+        self.refused(7, 1, b"-5 0 0.000000 0 0 0\n")
+        self.refused(8, 1, b"0 -60 0.000000 0 0 0\n")
+        self.refused(9, 1, b"0 0 0.000000 64 0 0\n")
+        self.refused(10, 1, b"-3 -21 0.000000 0 0 0\n")
+        self.refused(11, 2, b"0 0 0.000001 0 0 0\n0 0 0.000000 0 0 0\n")
+        self.refused(12, 2_049, b"0 0 0.000000 0 0 0\n" * 2_049)
+        self.refused(13, 1, b"-4 -52 0.000000 1 0 3 2 8 1 0\n")
+        self.refused(14, 1, b"-4 -52 0.000000 1 0 3 2 8 1 0\n-3 -21 0.000000 0 0 3 2 7 1 1\n")
+        self.refused(15, 0, TRACE_B, table({(0, 1): 1}, default=0))
+
+    def test_what_a_refusal_says(self):
+        of_a_line = self.refused(13, 1, b"-4 -52 0.000000 1 0 3 2 8 1 0\n")
+        self.assertEqual(of_a_line.sentence, "the receive has no matching send")
+        self.assertEqual(str(of_a_line), "refused 13 line 1: the receive has no matching send")
+        self.assertEqual(str(self.refused(2, 0, b"", array("I"))), "refused 2: the table or the lent times have the wrong length")
+
+    def test_a_refusal_comes_whole_from_another_process(self):
+        copy = pickle.loads(pickle.dumps(Refused(7, 25)))
+        self.assertEqual((copy.number, copy.line, str(copy)), (7, 25, str(Refused(7, 25))))
+
+    def test_a_choice_has_to_be_named(self):
+        with self.assertRaises(TypeError):
+            judge(TRACE_A, FIVES)
+        for other in ("", "Strict", "1", 1, 2, True, None, b"strict"):
+            with self.subTest(other), self.assertRaisesRegex(ValueError, '"strict" or "lenient"'):
+                judge(TRACE_A, FIVES, other)
+
+
+class Buffers(unittest.TestCase):
+    def test_whatever_lends_contiguous_bytes(self):
+        apart = memoryview(b"?" + TRACE_A + b"?")[1:-1]
+        for trace in (bytearray(TRACE_A), memoryview(TRACE_A), apart, apart.cast("c"), array("B", TRACE_A)):
+            with self.subTest(trace):
+                self.assertEqual(judge(trace, FIVES, "strict").times, CORRECTED_A)
+        with tempfile.TemporaryFile() as file:
+            file.write(TRACE_A)
+            file.flush()
+            with mmap.mmap(file.fileno(), 0, access=mmap.ACCESS_READ) as mapped:
+                self.assertEqual(judge(mapped, FIVES, "strict").times, CORRECTED_A)
+
+    def test_a_trace_that_is_none(self):
+        spread = bytes(byte for pair in zip(TRACE_A, TRACE_A) for byte in pair)
+        for trace in (memoryview(spread)[::2], memoryview(TRACE_A)[::-1], array("I", [1]), TRACE_A.decode(), None, 5, [1]):
+            with self.subTest(trace), self.assertRaisesRegex(TypeError, "the trace should be contiguous bytes"):
+                judge(trace, FIVES, "strict")
+
+    def test_whatever_lends_latencies(self):
+        file = (SAMPLES / "five.table").read_bytes()
+        for latencies in (array("I", file), memoryview(FIVES), memoryview(file).cast("I"), memoryview(file).cast("I", (64, 64))):
+            with self.subTest(latencies):
+                self.assertEqual(judge(TRACE_A, latencies, "strict").times, CORRECTED_A)
+
+    def test_latencies_that_are_none(self):
+        for latencies in (memoryview(FIVES * 2)[::2], array("i", FIVES), array("Q", FIVES), FIVES.tobytes(), list(FIVES), {}, None):
+            with self.subTest(latencies), self.assertRaisesRegex(TypeError, "the table should be contiguous unsigned numbers"):
+                judge(TRACE_A, latencies, "strict")
+
+
+class Tables(unittest.TestCase):
+    def test_latencies_stand_at_their_pair(self):
+        entries = table({(2, 5): 9, (63, 63): 1_000_000}, default=3)
+        self.assertEqual((len(entries), entries.typecode), (4_096, "I"))
+        others = {64 * 2 + 5: 9, 4_095: 1_000_000}
+        self.assertEqual(list(entries), [others.get(place, 3) for place in range(4_096)])
+
+    def test_the_samples(self):
+        for name, made in (("five", FIVES), ("zero", ZEROS), ("one_way", table({(0, 1): 1}, default=0))):
+            self.assertEqual(made.tobytes(), (SAMPLES / f"{name}.table").read_bytes())
+
+    def test_the_default_has_to_be_named(self):
+        with self.assertRaises(TypeError):
+            table({(0, 1): 5})
+        with self.assertRaises(TypeError):
+            table({(0, 1): 5}, 0)
+
+    def test_pairs_that_are_none(self):
+        for pair in ((0, 64), (-1, 0), (0,), (0, 1, 2), 65, "01", ("0", "1"), (0.0, 1), (False, True), None):
+            with self.subTest(pair), self.assertRaisesRegex(ValueError, "two processors from 0 to 63"):
+                table({pair: 5}, default=0)
+
+    def test_latencies_that_are_none(self):
+        for latency in (-1, 1_000_001, 2**32, 5.0, "5", True, None):
+            with self.subTest(latency):
+                with self.assertRaisesRegex(ValueError, "the latency from 0 to 1 should be .* 0 to 1,000,000, and is"):
+                    table({(0, 1): latency}, default=0)
+                with self.assertRaisesRegex(ValueError, "the default should be .* 0 to 1,000,000, and is"):
+                    table({}, default=latency)
+
+
+class Loading(unittest.TestCase):
+    def test_a_missing_library(self):
+        with tempfile.TemporaryDirectory() as empty:
+            run = subprocess.run(
+                [sys.executable, "-B", "-c", "import cantuvesh"],
+                cwd=Path(cantuvesh.__file__).parent,
+                env={**os.environ, "CANTUVESH_LIBRARY": empty},
+                capture_output=True,
+                text=True,
+            )
+        self.assertNotEqual(run.returncode, 0)
+        self.assertRegex(run.stderr, f"ImportError: {empty}/lib/libcantuvesh.so: .*: run ./library, .* CANTUVESH_LIBRARY")
+
+
+def load_tests(_loader, tests, _pattern):
+    """The examples in the documentation are tests, too."""
+    tests.addTests(doctest.DocTestSuite(cantuvesh))
+    return tests
+
+
+if __name__ == "__main__":
+    unittest.main()
