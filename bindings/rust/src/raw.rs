@@ -62,8 +62,8 @@ pub const LINKED: Library = unsafe { Library::at(cantuvesh_judge) };
 pub struct Library(Judge);
 
 impl Library {
-    /// The library whose function is at this place, for one that is linked under another name: `unsafe
-    /// extern "C" { fn name(); }` declares as much of it as is needed.
+    /// The library with this function, for one that is linked under another name. To declare it by
+    /// `unsafe extern "C" { fn name(); }` is enough: its parameters are known here.
     ///
     /// # Safety
     ///
