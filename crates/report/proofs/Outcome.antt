@@ -1,4 +1,4 @@
--- The statements of `report` and of `say`: each leaves one outcome, and the code's ways out meet it.
+-- The statements of `report`, of `say` and of `tell`: each leaves one outcome, and the code's ways out meet it.
 use Prim.Native.Nat.{ℕ}
 use mathlib.Core.Path.{_≡_, sym, _∙_}
 use mathlib.Core.List.{List}
@@ -7,8 +7,10 @@ use Rattle.paper.specs.declared.Answer.{Answer}
 use Rattle.report.specs.Put.{Put}
 use Rattle.report.specs.Report.{reportOf, acceptedShown, refusedShown, Reported}
 use Rattle.report.specs.Said.{saidShown, Spoken}
+use Rattle.report.specs.Told.{toldShown, ToldInto}
 use Rattle.report.specs.declared.Said.{Said}
 use Rattle.report.specs.declared.Said.the-variants.{Answered}
+use Rattle.report.specs.declared.Told.{Told}
 use Rattle.report.proofs.Puts.{counted}
 
 one-put : {room text : List ℕ} {at r q : ℕ} {a b : List ℕ} → Put room at text r a → Put room at text q b → (r ≡ q) × (a ≡ b)
@@ -21,6 +23,9 @@ one-report x y = one-put (x .put) (y .put)
 
 pub one-spoken : {said : Said} {room : List ℕ} {r q : ℕ} {a b : List ℕ} → Spoken said room r a → Spoken said room q b → (r ≡ q) × (a ≡ b)
 one-spoken x y = one-put (x .put) (y .put)
+
+pub one-told : {told : Told} {room : List ℕ} {r q : ℕ} {a b : List ℕ} → ToldInto told room r a → ToldInto told room q b → (r ≡ q) × (a ≡ b)
+one-told x y = one-put (x .put) (y .put)
 
 module _ {answer : Answer} {room : List ℕ} {end : ℕ} {after : List ℕ} where
   pub refused : (answer .number ≡ 0 → ⊥) → Put room 0 (refusedShown (answer .number) (answer .line)) end after → Reported answer room end after
@@ -39,3 +44,11 @@ module _ {room : List ℕ} {end : ℕ} {after : List ℕ} where
 
   pub line : {said : Said} {word : List ℕ} → word ≡ saidShown said → Put room 0 word end after → Spoken said room end after
   line e p = record { put = rw e at p; counts = counted p }
+
+-- what `tell` puts there: a line of its own, or one that `say` has too
+module _ {told : Told} {room : List ℕ} {end : ℕ} {after : List ℕ} where
+  pub tells : {word : List ℕ} → word ≡ toldShown told → Put room 0 word end after → ToldInto told room end after
+  tells e p = record { put = rw e at p; counts = counted p }
+
+  pub in-common : {said : Said} → saidShown said ≡ toldShown told → Spoken said room end after → ToldInto told room end after
+  in-common e p = record { put = rw e at (p .put); counts = p .counts }

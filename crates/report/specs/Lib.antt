@@ -2,3 +2,4 @@
 pub mod Put
 pub mod Report
 pub mod Said
+pub mod Told

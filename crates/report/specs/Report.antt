@@ -18,6 +18,10 @@ shown n = digits 10 (placesFrom 19 n) n
 unfoldable pub numbered : List ℕ → ℕ → List ℕ
 numbered word n = word ++ (shown n ++ bytesOf "\n")
 
+-- a number between two words, and then another to the end of the line
+unfoldable pub twoNumbers : List ℕ → ℕ → List ℕ → ℕ → List ℕ
+twoNumbers word n between m = word ++ (shown n ++ numbered between m)
+
 unfoldable pub verdictShown : ℕ → List ℕ
 verdictShown verdict =
     cond (eqb verdict 1)
@@ -35,7 +39,7 @@ acceptedShown a =
 
 -- "for a refusal one line, as "refused 7 line 25""
 unfoldable pub refusedShown : ℕ → ℕ → List ℕ
-refusedShown number line = bytesOf "refused " ++ (shown number ++ numbered (bytesOf " line ") line)
+refusedShown number line = twoNumbers (bytesOf "refused ") number (bytesOf " line ") line
 
 unfoldable pub reportOf : Answer → List ℕ
 reportOf a = cond (eqb (a .number) 0) (acceptedShown a) (refusedShown (a .number) (a .line))

@@ -1,7 +1,8 @@
 // The report's lines, put into a room one behind the other.
 ghost use Prim.Native.Nat.{_+_, _≤_};
 ghost use lib.ListN.{length};
-ghost use Rattle.report.specs.Report.{shown, numbered, verdictShown, refusedShown, acceptedShown};
+ghost use Rattle.report.specs.Report.{shown, numbered, twoNumbers, verdictShown, refusedShown, acceptedShown};
+ghost use Rattle.report.specs.Told.{pairShown};
 ghost use Rattle.report.specs.Put.{Put, Short};
 use paper::Answer;
 
@@ -23,7 +24,7 @@ fn put_number(room: &mut [u8], at: usize, n: u64) -> usize
 }
 
 // A word and a number, to the end of the line.
-fn put_numbered(room: &mut [u8], at: usize, word: &[u8], n: u64) -> usize
+pub(crate) fn put_numbered(room: &mut [u8], at: usize, word: &[u8], n: u64) -> usize
     requires { ⌜ at + length (now word) + 21 ≤ length (now room) ⌝ }
     ensures { λ r. ⌜ Short (length (now (word .entry)) + 21) (now (room .entry)) at (numbered (now (word .entry)) n) r (now (room .exit)) ⌝ }
 {
@@ -43,13 +44,28 @@ fn put_verdict(room: &mut [u8], verdict: u64) -> usize
     }
 }
 
+// A number between two words, and then another to the end of the line.
+fn put_two(room: &mut [u8], word: &[u8], n: u64, between: &[u8], m: u64) -> usize
+    requires { ⌜ length (now word) + length (now between) + 41 ≤ length (now room) ⌝ }
+    ensures { λ r. ⌜ Put (now (room .entry)) 0 (twoNumbers (now (word .entry)) n (now (between .entry)) m) r (now (room .exit)) ⌝ }
+{
+    let a = put_word(room, 0, word);
+    let b = put_number(room, a, n);
+    put_numbered(room, b, between, m)
+}
+
 pub(crate) fn put_refused(room: &mut [u8], number: u64, line: u64) -> usize
     requires { ⌜ 55 ≤ length (now room) ⌝ }
     ensures { λ r. ⌜ Put (now (room .entry)) 0 (refusedShown number line) r (now (room .exit)) ⌝ }
 {
-    let a = put_word(room, 0, b"refused ");
-    let b = put_number(room, a, number);
-    put_numbered(room, b, b" line ", line)
+    put_two(room, b"refused ", number, b" line ", line)
+}
+
+pub(crate) fn put_pair(room: &mut [u8], sender: u64, receiver: u64) -> usize
+    requires { ⌜ 55 ≤ length (now room) ⌝ }
+    ensures { λ r. ⌜ Put (now (room .entry)) 0 (pairShown sender receiver) r (now (room .exit)) ⌝ }
+{
+    put_two(room, b"refused pair ", sender, b" ", receiver)
 }
 
 pub(crate) fn put_accepted(room: &mut [u8], answer: Answer) -> usize

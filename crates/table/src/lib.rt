@@ -1,4 +1,7 @@
-// The latencies that the bytes of a table file hold: document 01, "four for each latency, low byte first".
+// The latencies that the bytes of a table file hold, and back: document 01, "four for each latency, low byte first".
+mod write;
+
+pub use write::encode;
 ghost use mathlib.Core.Path.{_≡_};
 ghost use Prim.Native.Nat.{_+_, _*_, _<_};
 ghost use lib.ListN.{length};

@@ -1,0 +1,3 @@
+-- What a text of latencies means.
+pub mod Text
+pub mod Held
