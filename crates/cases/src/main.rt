@@ -1,6 +1,8 @@
 // Runs the program on each line of the file `list` and prints what it reports. A line has the arguments with one space between two,
-// so that a doubled space and one at the line's end make an empty argument; an empty line has none. A line that begins with '>'
-// names a file, which is printed. A new case needs no proof.
+// so that a doubled space and one at the line's end make an empty argument; an empty line has none. A line that begins with '=' has
+// the arguments of the program that makes tables. A line that begins with '>' names a file, which is printed, and one with '?' two
+// files, which are compared. A new case needs no proof.
+ghost use mathlib.Core.Path.{_≡_};
 ghost use Prim.Native.Nat.{_≤_};
 ghost use lib.ListN.{length};
 use bytes::scan::find;
@@ -8,6 +10,7 @@ use libc::STDOUT_FILENO;
 
 fn main() {
     lock(b"locked");
+    write_long();
     let mut list = io::large_buffer();
     let read = files::load(b"list", &mut list);
     let n = read.len;
@@ -18,6 +21,35 @@ fn main() {
 fn lock(name: &[u8]) {
     let file = os::create(name);
     libc::fchmod(file, 0);
+    libc::close(file);
+}
+
+// A text of latencies as long as one may be, and one with a byte more: a rule, and then a comment.
+fn write_long() {
+    let text = long_text();
+    write(b"full.latencies", &text, 262_144);
+    write(b"overlong.latencies", &text, 262_145);
+}
+
+fn long_text() -> [u8; 262145]
+    ensures { λ r. ⌜ length r ≡ 262145 ⌝ }
+{
+    let mut text = [b'#'; 262145];
+    text[0] = b'*';
+    text[1] = b' ';
+    text[2] = b'*';
+    text[3] = b' ';
+    text[4] = b'5';
+    text
+}
+
+// The first bytes of a text into a file.
+fn write(name: &[u8], text: &[u8], n: usize) {
+    if text.len() < n {
+        return;
+    }
+    let file = os::create(name);
+    io::write_all(file, &text[0..n]);
     libc::close(file);
 }
 
@@ -38,11 +70,12 @@ fn case(line: &[u8]) {
         shell::perform(1, line, line, line, line);
         return;
     }
-    if line[0] == b'>' {
-        show(&line[1..]);
-        return;
+    match line[0] {
+        b'>' => show(&line[1..]),
+        b'?' => compare(&line[1..]),
+        b'=' => make(&line[1..]),
+        _ => run(line),
     }
-    run(line);
 }
 
 // The words of a line as the program's arguments, with its own name in the count.
@@ -57,6 +90,16 @@ fn run(line: &[u8]) {
         word(line, b),
         word(line, c),
     );
+}
+
+// The same for the program that makes tables.
+fn make(line: &[u8]) {
+    if line.len() == 0 {
+        tables::perform(1, line, line);
+        return;
+    }
+    let a = behind(line, 0);
+    tables::perform(spaces(line) + 2, word(line, 0), word(line, a));
 }
 
 // The word that begins at a place, and where the next one begins: at the line's end where there is none.
@@ -99,6 +142,29 @@ fn show(name: &[u8]) {
     }
     let n = read.len;
     print(&text[..n]);
+}
+
+fn compare(line: &[u8]) {
+    let a = behind(line, 0);
+    let mut one = io::large_buffer();
+    let mut other = io::large_buffer();
+    let first = files::load(word(line, 0), &mut one);
+    let second = files::load(word(line, a), &mut other);
+    if !first.ok {
+        print(b"no file\n");
+        return;
+    }
+    if !second.ok {
+        print(b"no file\n");
+        return;
+    }
+    let n = first.len;
+    let m = second.len;
+    if check::same(&one[..n], &other[..m]) {
+        print(b"same\n");
+        return;
+    }
+    print(b"different\n");
 }
 
 fn print(text: &[u8]) {

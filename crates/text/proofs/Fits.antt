@@ -17,7 +17,9 @@ use Rattle.rule.specs.declared.Meaning.the-variants.{Nothing, Bad, Sets}
 use Rattle.rule.proofs.Low.{sets-low}
 use Rattle.table.specs.Table.{latenciesOf, bytesFor}
 use Rattle.table.proofs.Back.{bytes-back, bytes-long}
-use Rattle.text.specs.Text.{saidOf, entry, valueOf, places, tableOf}
+use Rattle.text.specs.Text.{saidOf, entry, valueOf, places, tableOf, onlyWhole, MadeInto}
+use Rattle.text.specs.declared.Made.{Made}
+use Rattle.text.specs.declared.Made.the-variants.{Whole, BadLine, Open}
 
 -- ---- what is said is low
 
@@ -82,3 +84,14 @@ file-back text = bytes-back (tableOf text) (λ i h. small i)
   where
     small : (i : ℕ) → getD (tableOf text) i 0 < 2 ^ 32
     small i = omega (arith, places-small (entry (linesOf text)) (entry-low (linesOf text)) 4096 0 i)
+
+-- ---- the room
+
+pub room-long : {text before after : List ℕ} {made : Made} → MadeInto text before made after → length before ≡ 16384 → length after ≡ 16384
+unfolding onlyWhole
+room-long {text} {before} {after} {made} m h = rw (m .holds) (go made)
+  where
+    go : (made : Made) → length (onlyWhole made (bytesFor (tableOf text)) before) ≡ 16384
+    go Whole = file-long text
+    go (BadLine n) = h
+    go (Open sender receiver) = h

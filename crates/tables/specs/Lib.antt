@@ -1,0 +1,2 @@
+-- The program's own rules: what it says.
+pub mod Program
