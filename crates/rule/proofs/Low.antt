@@ -1,17 +1,17 @@
 -- What a line sets is a latency of at most 1,000,000.
 use Prim.Native.Nat.{ℕ, _≤_}
-use mathlib.Core.Path.{_≡_, refl, sym, ap, _∙_}
+use mathlib.Core.Path.{_≡_, ap}
 use mathlib.Core.List.{List, [], _∷_}
 use mathlib.Core.Option.{Option, none, some}
 use native.Mathlib.Omega.{arith}
 use Rattle.paper.specs.Forms.{wholeOf}
 use Rattle.rule.specs.Words.{uncommented, trimmed, word, next}
-use Rattle.rule.specs.Rule.{natural, whoOf, alone, onLatency, known, three, onWords, meaningOf}
+use Rattle.rule.specs.Rule.{alone, onLatency, known, three, onWords, meaningOf}
 use Rattle.rule.specs.declared.Who.{Who}
 use Rattle.rule.specs.declared.Who.the-variants.{Every, One, Nobody}
 use Rattle.rule.specs.declared.Rule.{Rule}
 use Rattle.rule.specs.declared.Meaning.{Meaning}
-use Rattle.rule.specs.declared.Meaning.the-variants.{Nothing, Bad, Sets}
+use Rattle.rule.specs.declared.Meaning.the-variants.{Sets}
 use Rattle.rule.proofs.Threes.{natural-low}
 
 known-sets : (who : Who) (meaning : Meaning) (rule : Rule) → known who meaning ≡ Sets rule → meaning ≡ Sets rule

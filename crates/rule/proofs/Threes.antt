@@ -1,5 +1,5 @@
 -- Numbers, names and the three words of a line.
-use Prim.Native.Nat.{ℕ, suc, _-_, _≤_, _<_}
+use Prim.Native.Nat.{ℕ, _-_, _≤_, _<_}
 use mathlib.Core.Path.{_≡_, refl, sym, ap, _∙_}
 use mathlib.Core.Bool.{Bool, true, false, cond, _&&_}
 use mathlib.Core.List.{List, [], _∷_}
@@ -16,13 +16,13 @@ use Rattle.paper.specs.declared.Field.the-variants as Field
 use Rattle.signed.specs.Naturals.{naturalOf}
 use Rattle.signed.specs.declared.Natural.{Natural}
 use Rattle.signed.specs.declared.Natural.the-variants.{Of, Outside}
-use Rattle.rule.specs.Words.{word, next}
+use Rattle.rule.specs.Words.{next}
 use Rattle.rule.specs.Rule.{natural, isStar, one, whoOf, alone, onLatency, known, three, onWords}
 use Rattle.rule.specs.Cursor.{Starts, Ends, Names, numberIn, onRest, lastOf, setting, isNobody}
 use Rattle.rule.specs.declared.Who.{Who}
 use Rattle.rule.specs.declared.Who.the-variants.{Every, One, Nobody}
 use Rattle.rule.specs.declared.Meaning.{Meaning}
-use Rattle.rule.specs.declared.Meaning.the-variants.{Nothing, Bad, Sets}
+use Rattle.rule.specs.declared.Meaning.the-variants.{Nothing, Bad}
 use Rattle.rule.specs.declared.three.Named.{Named}
 
 -- ---- a number
@@ -149,8 +149,7 @@ pub three-read : {l : List ℕ} (at : ℕ) {first second : Named} {o : Option �
     → o ≡ lastOf (drop (second .next) l)
     → known (first .who) (known (second .who) (setting (first .who) (second .who) o)) ≡ three (drop at l)
 unfolding three lastOf
-three-read {l} at n m e =
-    rw (e, n .is, m .is, m .rest, n .rest) (rw (set-last _ _ _ _))
+three-read at n m e = rw (e, n .is, m .is, m .rest, n .rest, set-last)
 
 -- ---- a line
 

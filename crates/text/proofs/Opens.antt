@@ -1,14 +1,13 @@
 -- The first open place.
 use Prim.Native.Nat.{ℕ, zero, suc, _+_, _-_, _/_, _%_, _≤_, _<_}
-use mathlib.Core.Path.{_≡_, refl, sym, ap, _∙_}
+use mathlib.Core.Path.{_≡_, sym, _∙_}
 use mathlib.Core.List.{List}
-use mathlib.Core.Option.{Option, none, some}
+use mathlib.Core.Option.{Option}
 use native.Mathlib.Omega.{arith}
 use lib.ListN.{length, getD, replicate, length-replicate, getD-replicate}
 use borrow.Author.Tests.{le-leb, lt-leb}
 use Rattle.text.specs.Text.{openOr, firstOpen, onOpen}
 use Rattle.text.specs.Held.{saidBy, held, Unsaid}
-use Rattle.text.specs.declared.Made.{Made}
 use Rattle.text.specs.declared.Made.the-variants.{Whole, Open}
 
 -- ---- nothing said

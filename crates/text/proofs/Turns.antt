@@ -1,15 +1,15 @@
 -- A line's sayings put over those before it, and the loop over the lines: what is left gives with what was said the whole.
-use Prim.Native.Nat.{ℕ, suc, _+_, _-_, _/_, _%_, _≤_, _<_}
-use mathlib.Core.Path.{_≡_, refl, sym, ap, _∙_}
+use Prim.Native.Nat.{ℕ, _+_, _-_, _/_, _%_, _≤_, _<_}
+use mathlib.Core.Path.{_≡_, refl, sym, _∙_}
 use mathlib.Core.Bool.{Bool, true, false, cond, _&&_, not}
 use mathlib.Core.List.{List, []}
-use mathlib.Core.Option.{Option, none, some}
+use mathlib.Core.Option.{Option, some}
 use native.Mathlib.Omega.{arith}
 use lib.ListN.{length, take, drop, getD, drop-of-length-le}
 use lib.Dec.{eqb}
 use borrow.Author.Tests.{eqb-true, eqb-false, ne-eqb, le-leb, not-true, not-false}
 use Rattle.bytes.specs.Bytes.{indexOf, slice}
-use Rattle.paper.specs.Reading.{done, unended, ended, linesOf}
+use Rattle.paper.specs.Reading.{Lines, done, unended, ended, linesOf}
 use Rattle.reading.proofs.Found.{found-at, unended-here, ended-here}
 use Rattle.rule.specs.Rule.{covers, over, meaningOf}
 use Rattle.rule.specs.declared.Rule.{Rule}
@@ -49,24 +49,23 @@ module _ (text : List ℕ) (at end : ℕ) (some-left : at < length text) (found 
   unfolding linesOf
   none-behind e = rw (drop-of-length-le text {i = end + 1} (omega arith))
 
+  -- whatever takes a last line without its LF as one with it
+  line-on : {A : Type 0} (f : Lines → A) (g : List ℕ → Lines → A) → ((l : List ℕ) → f (unended l) ≡ g l done) → ((l : List ℕ) (more : Lines) → f (ended l more) ≡ g l more)
+      → f (linesOf (drop at text)) ≡ g (take (end - at) (drop at text)) (linesOf (drop (end + 1) text))
+  line-on f g last other = go (eqb end (length text)) refl
+    where
+      go : (t : Bool) → eqb end (length text) ≡ t → f (linesOf (drop at text)) ≡ g (take (end - at) (drop at text)) (linesOf (drop (end + 1) text))
+      go true e = let q = eqb-true end (length text) e in rw (unended-here text at end found some-left q, none-behind q) (last _)
+      go false e = rw (ended-here text at end found (eqb-false end (length text) e) within) (other _ _)
+
   bad-on : (n : ℕ) → firstBad n (linesOf (drop at text)) ≡ badOr n (meaningOf (take (end - at) (drop at text))) (firstBad (n + 1) (linesOf (drop (end + 1) text)))
   unfolding firstBad
-  bad-on n = go (eqb end (length text)) refl
-    where
-      go : (t : Bool) → eqb end (length text) ≡ t
-          → firstBad n (linesOf (drop at text)) ≡ badOr n (meaningOf (take (end - at) (drop at text))) (firstBad (n + 1) (linesOf (drop (end + 1) text)))
-      go true e = let q = eqb-true end (length text) e in rw (unended-here text at end found some-left q, none-behind q)
-      go false e = rw (ended-here text at end found (eqb-false end (length text) e) within)
+  bad-on n = line-on (firstBad n) (λ l more. badOr n (meaningOf l) (firstBad (n + 1) more)) (λ l. refl) (λ l more. refl)
 
   said-on : (s r : ℕ) (old : Option ℕ)
       → saidOf s r old (linesOf (drop at text)) ≡ saidOf s r (over s r old (meaningOf (take (end - at) (drop at text)))) (linesOf (drop (end + 1) text))
   unfolding saidOf
-  said-on s r old = go (eqb end (length text)) refl
-    where
-      go : (t : Bool) → eqb end (length text) ≡ t
-          → saidOf s r old (linesOf (drop at text)) ≡ saidOf s r (over s r old (meaningOf (take (end - at) (drop at text)))) (linesOf (drop (end + 1) text))
-      go true e = let q = eqb-true end (length text) e in rw (unended-here text at end found some-left q, none-behind q)
-      go false e = rw (ended-here text at end found (eqb-false end (length text) e) within)
+  said-on s r old = line-on (saidOf s r old) (λ l more. saidOf s r (over s r old (meaningOf l)) more) (λ l. refl) (λ l more. refl)
 
 -- ---- the loop
 

@@ -1,17 +1,17 @@
 -- From the places to the table: a table that has no open place holds what the lines say.
-use Prim.Native.Nat.{ℕ, zero, suc, _+_, _*_, _/_, _%_, _≤_, _<_}
+use Prim.Native.Nat.{ℕ, zero, suc, _+_, _*_, _<_}
 use mathlib.Core.Path.{_≡_, refl, sym, ap, _∙_}
-use mathlib.Core.Bool.{Bool, true, false, cond}
+use mathlib.Core.Bool.{Bool, true, false}
 use mathlib.Core.List.{List, [], _∷_}
 use mathlib.Core.Option.{Option, none, some}
 use native.Mathlib.Omega.{arith}
 use lib.ListN.{length, getD}
-use lib.Dec.{leb, eqb}
+use lib.Dec.{leb}
 use borrow.Author.Tests.{eq-eqb, ne-eqb}
 use Rattle.paper.specs.Reading.{linesOf}
 use Rattle.table.specs.Table.{bytesFor, fitting}
-use Rattle.text.specs.Text.{firstBad, saidOf, entry, openOr, firstOpen, valueOf, places, tableOf, onOpen, onBad, madeOf, onlyWhole, MadeInto}
-use Rattle.text.specs.Held.{saidBy, held, Unsaid, lineIn, LinesRead, TableRead}
+use Rattle.text.specs.Text.{entry, openOr, firstOpen, valueOf, places, tableOf, onOpen, onBad, madeOf, onlyWhole, MadeInto}
+use Rattle.text.specs.Held.{saidBy, held, Unsaid, lineIn, LinesRead, TableRead, writtenOver}
 use Rattle.text.specs.declared.Made.{Made}
 use Rattle.text.specs.declared.Made.the-variants.{Whole, BadLine, Open}
 
@@ -74,16 +74,16 @@ module _ {text before after : List ℕ} {bad : ℕ} (open-all : Unsaid before) (
 pub made-into : {text latencies before after : List ℕ} {made : Made}
     → TableRead text made latencies
     → length before ≡ 16384
-    → after ≡ onlyWhole made (cond (fitting before latencies) (bytesFor latencies) before) before
+    → after ≡ writtenOver before made latencies
     → MadeInto text before made after
-unfolding onlyWhole
+unfolding onlyWhole writtenOver
 made-into {text} {latencies} {before} {after} {made} read wide e = record { answer = read .answer; holds = e ∙ go made (read .holds) }
   where
     fits : fitting before latencies ≡ true
     fits = eq-eqb (length before) (4 * length latencies) (omega (arith, read .long))
 
     go : (made : Made) → (made ≡ Whole → latencies ≡ tableOf text)
-        → onlyWhole made (cond (fitting before latencies) (bytesFor latencies) before) before ≡ onlyWhole made (bytesFor (tableOf text)) before
+        → writtenOver before made latencies ≡ onlyWhole made (bytesFor (tableOf text)) before
     go Whole h = rw (fits, h refl)
     go (BadLine n) h = refl
     go (Open sender receiver) h = refl

@@ -1,5 +1,5 @@
 -- What the places of the table hold while the lines are read, and what the code's parts leave in them.
-use Prim.Native.Nat.{ℕ, suc, _/_, _%_, _≤_, _<_}
+use Prim.Native.Nat.{ℕ, _/_, _%_, _≤_, _<_}
 use mathlib.Core.Path.{_≡_}
 use mathlib.Core.Bool.{Bool, true, false, cond, _&&_}
 use mathlib.Core.List.{List}
@@ -7,12 +7,13 @@ use mathlib.Core.Option.{Option, none, some}
 use lib.ListN.{length, getD}
 use lib.Dec.{leb, ltb, eqb}
 use Rattle.paper.specs.Reading.{linesOf}
-use Rattle.rule.specs.Rule.{covers, over, meaningOf}
+use Rattle.rule.specs.Rule.{covers, over}
 use Rattle.rule.specs.declared.Who.{Who}
 use Rattle.rule.specs.declared.Rule.{Rule}
 use Rattle.rule.specs.declared.Meaning.{Meaning}
 use Rattle.rule.specs.declared.Meaning.the-variants.{Nothing, Bad, Sets}
-use Rattle.text.specs.Text.{firstBad, saidOf, tableOf, madeOf}
+use Rattle.table.specs.Table.{bytesFor, fitting}
+use Rattle.text.specs.Text.{firstBad, saidOf, tableOf, madeOf, onlyWhole}
 use Rattle.text.specs.declared.Made.{Made}
 use Rattle.text.specs.declared.Made.the-variants.{Whole}
 use Rattle.text.specs.declared.spans.Span.{Span}
@@ -91,3 +92,9 @@ pub record TableRead (text : List ℕ) (made : Made) (after : List ℕ) : Type 0
   pub answer : made ≡ madeOf text
   pub long : length after ≡ 4096
   pub holds : made ≡ Whole → after ≡ tableOf text
+
+-- ---- the room
+
+-- a whole table's bytes, where they fit
+unfoldable pub writtenOver : List ℕ → Made → List ℕ → List ℕ
+writtenOver before made latencies = onlyWhole made (cond (fitting before latencies) (bytesFor latencies) before) before

@@ -4,10 +4,8 @@ mod places;
 mod spans;
 
 ghost use mathlib.Core.Path.{_≡_};
-ghost use mathlib.Core.Bool.{cond};
-ghost use Rattle.table.specs.Table.{bytesFor, fitting};
-ghost use Rattle.text.specs.Text.{MadeInto, onlyWhole};
-ghost use Rattle.text.specs.Held.{Unsaid, TableRead};
+ghost use Rattle.text.specs.Text.{MadeInto};
+ghost use Rattle.text.specs.Held.{Unsaid, TableRead, writtenOver};
 
 // A whole table, the first bad line, or the first pair, sender and receiver, of which no line says anything.
 pub enum Made {
@@ -37,8 +35,9 @@ fn read_table(text: &[u8], latencies: &mut [u32]) -> Made
     places::first_open(latencies)
 }
 
+// Only a whole table is written, and only where it fits.
 fn write_whole(made: Made, latencies: &[u32], room: &mut [u8])
-    ensures { λ _. ⌜ now (room .exit) ≡ onlyWhole made (cond (fitting (now (room .entry)) (now (latencies .entry))) (bytesFor (now (latencies .entry))) (now (room .entry))) (now (room .entry)) ⌝ }
+    ensures { λ _. ⌜ now (room .exit) ≡ writtenOver (now (room .entry)) made (now (latencies .entry)) ⌝ }
 {
     match made {
         Made::Whole => {

@@ -1,8 +1,7 @@
 -- `rule::read_line` meets its contract.
-use mathlib.Core.Path.{ap, _∙_}
+use mathlib.Core.Path.{_∙_}
 use borrow.Author.Needs.{needs}
-use Rattle.rule.specs.Words.{trimmed}
-use Rattle.rule.specs.Rule.{onWords, meaningOf}
+use Rattle.rule.specs.Rule.{meaningOf}
 use Rattle.rule.proofs.Cuts.{uncommented-is}
 use Rattle.rule.proofs.read_line.Statement.{statement}
 use Rattle.rule.proofs.read_line.Tie as tie

@@ -1,7 +1,7 @@
 -- `text::write_whole` meets its contract.
-use mathlib.Core.Path.{_∙_}
 use borrow.Author.Needs.{needs}
 use Rattle.text.specs.Text.{onlyWhole}
+use Rattle.text.specs.Held.{writtenOver}
 use Rattle.text.proofs.write_whole.Statement.{statement}
 use Rattle.text.proofs.write_whole.Tie as tie
 
@@ -21,15 +21,15 @@ same-length : tie.Need-same-length
 same-length c = search needs
 
 returns : tie.Need-returns
-unfolding onlyWhole
+unfolding onlyWhole writtenOver
 returns c = let c₂ = c .before .before in rw (c₂ .before .before .enum-told .given .1) (c₂ .encode .ensures .holds)
 
 returns-2 : tie.Need-returns-2
-unfolding onlyWhole
+unfolding onlyWhole writtenOver
 returns-2 c = rw (c .enum-told2 .given .1)
 
 returns-3 : tie.Need-returns-3
-unfolding onlyWhole
+unfolding onlyWhole writtenOver
 returns-3 c = rw (c .enum-told3 .given .1)
 
 pub write-whole-spec : {M : Type 1} → statement M

@@ -1,6 +1,6 @@
 -- The loop's invariant: the bytes before 4 * i stand, and the latencies from i on give the others.
 use Prim.Native.Nat.{_≤_, _-_, _*_}
-use mathlib.Core.Path.{_≡_, _∙_}
+use mathlib.Core.Path.{_≡_}
 use mathlib.Core.List.{_++_}
 use native.Mathlib.Omega.{arith}
 use borrow.Author.Needs.{needs}

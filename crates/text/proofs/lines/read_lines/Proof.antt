@@ -1,6 +1,6 @@
 -- The loop's invariant: the lines that are left give, with what was said so far, the whole.
 use Prim.Native.Nat.{_-_}
-use mathlib.Core.Path.{_≡_, _∙_}
+use mathlib.Core.Path.{_∙_}
 use lib.ListN.{length}
 use borrow.Author.Needs.{needs}
 use Rattle.text.proofs.Turns.{Going, going-start, at-end, line-bad, line-good}

@@ -1,8 +1,7 @@
 -- The loop's invariant: the places up to i are filled.
 use Prim.Native.Nat.{_≤_, _-_}
-use mathlib.Core.Path.{_≡_, ap}
+use mathlib.Core.Path.{_≡_}
 use native.Mathlib.Omega.{arith}
-use lib.ListN.{length}
 use borrow.Author.Needs.{needs}
 use Rattle.text.specs.Held.{Filled}
 use Rattle.text.proofs.Rows.{fill-none, fill-on}
