@@ -19,7 +19,8 @@ use Rattle.paper.specs.declared.Message.{Message}
 use Rattle.paper.specs.declared.Head.{Head}
 use Rattle.paper.specs.declared.Fault.the-variants as Fault
 use Rattle.paper.specs.declared.Line.the-variants.{Refused, Listed}
-use Rattle.line.specs.Sorting.{noteOf, numberIn}
+use Rattle.signed.specs.Naturals.{numberIn}
+use Rattle.line.specs.Sorting.{noteOf}
 use Rattle.line.specs.declared.listed.Note.{Note}
 use Rattle.line.specs.declared.listed.Note.the-variants as Note
 use Rattle.signed.specs.Naturals.{sizeOf, naturalOf}

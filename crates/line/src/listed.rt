@@ -2,7 +2,8 @@
 ghost use mathlib.Core.Path.{_≡_};
 ghost use Rattle.paper.specs.Line.{placed, partOf, messageOf, roleOf, withRole, withData, listedLine};
 ghost use Rattle.fields.specs.Cursor.{restAt};
-ghost use Rattle.line.specs.Sorting.{noteOf, castOf, numberIn};
+ghost use Rattle.signed.specs.Naturals.{numberIn};
+ghost use Rattle.line.specs.Sorting.{noteOf, castOf};
 use paper::Data;
 use paper::Fault;
 use paper::Head;

@@ -18,7 +18,8 @@ use Rattle.signed.specs.declared.Natural.{Natural}
 use Rattle.signed.specs.declared.Natural.the-variants.{Of, Outside}
 use Rattle.rule.specs.Words.{next}
 use Rattle.rule.specs.Rule.{natural, isStar, one, whoOf, alone, onLatency, known, three, onWords}
-use Rattle.rule.specs.Cursor.{Starts, Ends, Names, numberIn, onRest, lastOf, setting, isNobody}
+use Rattle.signed.specs.Naturals.{numberIn}
+use Rattle.rule.specs.Cursor.{Starts, Ends, Names, onRest, lastOf, setting, isNobody}
 use Rattle.rule.specs.declared.Who.{Who}
 use Rattle.rule.specs.declared.Who.the-variants.{Every, One, Nobody}
 use Rattle.rule.specs.declared.Meaning.{Meaning}

@@ -6,8 +6,6 @@ use mathlib.Core.List.{List, [], _∷_}
 use mathlib.Core.Option.{Option, none, some}
 use lib.ListN.{length, take, drop}
 use Rattle.paper.specs.Forms.{wholeOf}
-use Rattle.signed.specs.declared.Natural.{Natural}
-use Rattle.signed.specs.declared.Natural.the-variants.{Of, Outside}
 use Rattle.rule.specs.Words.{trimmed, word, behind, next}
 use Rattle.rule.specs.Rule.{natural, whoOf}
 use Rattle.rule.specs.declared.Who.{Who}
@@ -36,10 +34,6 @@ pub record Names (line : List ℕ) (at : ℕ) (named : Named) : Type 0 where
   pub within : named .next ≤ length line
 
 -- ---- numbers
-
-unfoldable pub numberIn : Natural → Option ℕ
-numberIn (Of n) = some n
-numberIn Outside = none
 
 unfoldable pub latencyIn : Last → Option ℕ
 latencyIn (Last.Latency latency) = some latency

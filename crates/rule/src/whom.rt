@@ -2,7 +2,7 @@
 ghost use mathlib.Core.Path.{_≡_};
 ghost use Rattle.paper.specs.Forms.{wholeOf};
 ghost use Rattle.rule.specs.Rule.{natural, isStar, whoOf};
-ghost use Rattle.rule.specs.Cursor.{numberIn};
+ghost use Rattle.signed.specs.Naturals.{numberIn};
 use crate::Who;
 use paper::Field;
 use signed::Natural;

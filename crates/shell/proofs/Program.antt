@@ -16,7 +16,8 @@ use Rattle.report.specs.declared.Said.the-variants.{Answered, CannotRead, Canno
 use Rattle.arguments.specs.declared.Plan.{Plan}
 use Rattle.arguments.specs.declared.Plan.the-variants as Plan
 use Rattle.arguments.specs.Arguments.{planOf}
-use Rattle.shell.specs.Program.{storing, endOf, answerOf, onLatencies, onTable, fileOf, onFiles, onPlan, saidOf, ByStored, ByFiles}
+use Rattle.files.specs.File.{fileOf}
+use Rattle.shell.specs.Program.{storing, endOf, answerOf, onLatencies, onTable, onFiles, onPlan, saidOf, ByStored, ByFiles}
 
 -- ---- the end
 

@@ -57,11 +57,6 @@ onTable choice wanted trace table stored =
     let judged = onLatencies choice wanted trace (latenciesOf table) stored in
     cond (eqb (length table) 16384) judged (Said.Answered (refusal Fault.WrongLength 0))
 
--- a file's bytes, or none where it can't be read
-unfoldable pub fileOf : (read : Bool) → List ℕ → Option (List ℕ)
-fileOf true bytes = some bytes
-fileOf false bytes = none
-
 -- "a file that can't be read .. gives the single line "cannot read"": either file, before all else that is asked of them
 unfoldable pub onFiles : (choice : ℕ) (wanted : Bool) (trace table : Option (List ℕ)) (stored : Bool) → Said
 onFiles choice wanted none table stored = Said.CannotRead

@@ -1,7 +1,8 @@
 // From the bytes of both files to what is said of them: "cannot read", refusal 2, the judgement, and the file for the written trace.
 ghost use mathlib.Core.Path.{_≡_};
 ghost use lib.ListN.{length};
-ghost use Rattle.shell.specs.Program.{storing, endOf, onLatencies, onFiles, fileOf, ByStored};
+ghost use Rattle.files.specs.File.{fileOf};
+ghost use Rattle.shell.specs.Program.{storing, endOf, onLatencies, onFiles, ByStored};
 ghost use Rattle.shell.specs.Judged.{JudgedInto};
 use paper::Answer;
 use paper::Asked;

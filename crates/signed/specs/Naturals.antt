@@ -1,6 +1,7 @@
 -- A signed number as a plain one, where it is not negative.
 use Prim.Native.Nat.{ℕ}
 use mathlib.Core.Bool.{cond}
+use mathlib.Core.Option.{Option, none, some}
 use lib.IntN.{ℤ, pos, negsuc, natAbs}
 use lib.Dec.{leb}
 use Rattle.paper.specs.Tests.{upTo}
@@ -13,3 +14,7 @@ sizeOf (negsuc n) = Outside
 
 unfoldable pub naturalOf : ℕ → ℤ → Natural
 naturalOf most z = cond (upTo most z) (Of (natAbs z)) Outside
+
+unfoldable pub numberIn : Natural → Option ℕ
+numberIn (Of n) = some n
+numberIn Outside = none

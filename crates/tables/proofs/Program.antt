@@ -10,7 +10,8 @@ use Rattle.text.specs.Text.{madeOf}
 use Rattle.text.specs.declared.Made.{Made}
 use Rattle.report.specs.declared.Told.{Told}
 use Rattle.report.specs.declared.Told.the-variants as Told
-use Rattle.tables.specs.Program.{onMade, onText, fileOf, onFile, toldOf, ByStored, ByFile}
+use Rattle.files.specs.File.{fileOf}
+use Rattle.tables.specs.Program.{onMade, onText, onFile, toldOf, ByStored, ByFile}
 
 -- ---- the text
 

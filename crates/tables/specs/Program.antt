@@ -24,11 +24,6 @@ onMade (Open sender receiver) stored = Told.Uncovered sender receiver
 unfoldable pub onText : List ℕ → (stored : Bool) → Told
 onText text stored = let told = onMade (madeOf text) stored in cond (ltb 262144 (length text)) Told.TooLong told
 
--- a file's bytes, or none where it can't be read
-unfoldable pub fileOf : (read : Bool) → List ℕ → Option (List ℕ)
-fileOf true bytes = some bytes
-fileOf false bytes = none
-
 unfoldable pub onFile : (text : Option (List ℕ)) (stored : Bool) → Told
 onFile none stored = Told.CannotRead
 onFile (some text) stored = onText text stored

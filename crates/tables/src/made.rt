@@ -2,7 +2,8 @@
 ghost use mathlib.Core.Path.{_≡_};
 ghost use lib.ListN.{length};
 ghost use Rattle.text.specs.Text.{madeOf};
-ghost use Rattle.tables.specs.Program.{onMade, onFile, fileOf, ByStored};
+ghost use Rattle.files.specs.File.{fileOf};
+ghost use Rattle.tables.specs.Program.{onMade, onFile, ByStored};
 use report::Told;
 use text::Made;
 

@@ -2,7 +2,7 @@
 use borrow.Author.Needs.{needs}
 use mathlib.Core.Path.{_≡_, refl, sym, ap, _∙_}
 use mir.Facts.{toZ-ofZ}
-use Rattle.line.specs.Sorting.{numberIn}
+use Rattle.signed.specs.Naturals.{numberIn}
 use Rattle.line.proofs.Parts.{own-process, other-process}
 use Rattle.line.proofs.listed.place_of.Statement.{statement}
 use Rattle.line.proofs.listed.place_of.Tie as tie

@@ -1,7 +1,7 @@
 -- `rule::whom::number` meets its contract.
 use mathlib.Core.Path.{sym, ap, _∙_}
 use borrow.Author.Needs.{needs}
-use Rattle.rule.specs.Cursor.{numberIn}
+use Rattle.signed.specs.Naturals.{numberIn}
 use Rattle.rule.proofs.Threes.{good-number, bad-number}
 use Rattle.rule.proofs.whom.number.Statement.{statement}
 use Rattle.rule.proofs.whom.number.Tie as tie

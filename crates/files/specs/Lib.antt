@@ -1,0 +1,2 @@
+-- What a program knows of a file.
+pub mod File
