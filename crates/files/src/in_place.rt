@@ -1,8 +1,9 @@
 // A text written over the bytes of a file that may not be replaced, so that half of it is never taken for the whole.
 //
-// The first byte is written last. Until then a byte stands in its place that no record begins with, and where the file is longer than the
-// text the same byte stands behind the text until the rest is cut off. The cut is the last thing done: up to it all that was written over
-// is kept aside, and put back where something fails.
+// The first four bytes are written last. Until then '?' stands in their places, with which no record begins and which as a latency is too
+// high, and where the file is longer than the text another one stands behind the text until the rest is cut off. The cut is the last thing
+// done: up to it all that was written over is kept aside, and put back where something fails.
+ghost use Prim.Native.Nat.{_≤_};
 use crate::read::load_open;
 use crate::say;
 use crate::system;
@@ -81,15 +82,26 @@ fn first(bytes: &[u8], most: usize) -> &[u8] {
     bytes
 }
 
-// All but the first byte is on the disk before that, and that before anything is cut off.
+// How many bytes are written last: of a text that is shorter, all.
+fn head_of(n: usize) -> usize
+    ensures { λ r. ⌜ r ≤ n ⌝ }
+{
+    if n < 4 {
+        return n;
+    }
+    4
+}
+
+// All but the head is on the disk before that, and that before anything is cut off.
 fn put_text(file: i32, text: &[u8], size: i64) -> Put {
     if text.len() == 0 {
         return emptied(file);
     }
-    if !put_at(file, b"?", 0) {
+    let head = head_of(text.len());
+    if !put_at(file, first(b"????", head), 0) {
         return Put::Untouched;
     }
-    if !put_at(file, &text[1..], 1) {
+    if !put_at(file, &text[head..], head as i64) {
         return Put::Touched;
     }
     if !mark_behind(file, text.len() as i64, size) {
@@ -98,7 +110,7 @@ fn put_text(file: i32, text: &[u8], size: i64) -> Put {
     if libc::fsync(file) != 0 {
         return Put::Touched;
     }
-    if !put_at(file, &text[0..1], 0) {
+    if !put_at(file, &text[0..head], 0) {
         return Put::Touched;
     }
     if libc::fsync(file) != 0 {
@@ -155,7 +167,7 @@ fn put_back(name: &[u8], file: i32, old: &[u8], size: i64) {
     }
 }
 
-// The first byte last here too, and only where the rest is as it was. A file can have grown only where all of it was written over.
+// The head last here too, and only where the rest is as it was. A file can have grown only where all of it was written over.
 fn restored(file: i32, old: &[u8], size: i64) -> bool {
     if old.len() as i64 == size {
         if libc::ftruncate(file, size) != 0 {
@@ -165,8 +177,9 @@ fn restored(file: i32, old: &[u8], size: i64) -> bool {
     if old.len() == 0 {
         return true;
     }
-    if !put_at(file, &old[1..], 1) {
+    let head = head_of(old.len());
+    if !put_at(file, &old[head..], head as i64) {
         return false;
     }
-    put_at(file, &old[0..1], 0)
+    put_at(file, &old[0..head], 0)
 }
