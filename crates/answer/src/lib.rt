@@ -34,6 +34,7 @@ fn number(fault: Fault) -> u64
         Fault::OtherLength => 14,
         Fault::NoTimes => 15,
         Fault::NoRoom => 16,
+        Fault::OtherLevels => 17,
     }
 }
 

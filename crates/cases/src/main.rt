@@ -1,7 +1,7 @@
 // Runs the program on each line of the file `list` and prints what it reports. A line has the arguments with one space between two,
-// so that a doubled space and one at the line's end make an empty argument; an empty line has none. A line that begins with '=' has
-// the arguments of the program that makes tables. A line that begins with '>' names a file, which is printed, and one with '?' two
-// files, which are compared. A new case needs no proof.
+// so that a doubled space and one at the line's end make an empty argument; an empty line has none. A line that begins with '!' has
+// the named arguments of the program for rollouts, and one with '=' those of the program that makes tables. A line that begins with '>'
+// names a file, which is printed, and one with '?' two files, which are compared. A new case needs no proof.
 ghost use mathlib.Core.Path.{_≡_};
 ghost use Prim.Native.Nat.{_≤_};
 ghost use lib.ListN.{length};
@@ -74,6 +74,7 @@ fn case(line: &[u8]) {
         b'>' => show(&line[1..]),
         b'?' => compare(&line[1..]),
         b'=' => make(&line[1..]),
+        b'!' => rollout::perform(&line[1..], b' '),
         _ => run(line),
     }
 }

@@ -40,18 +40,23 @@ module _ (l : List ℕ) (i : ℕ) where
 -- ---- 1
 
 module _ (a : Asked) where
-  pub hears-strict : a .choice ≡ 1 → heardOf (Of Strict) ≡ heard a
-  unfolding heard choiceOf heardOf
-  hears-strict e = rw e
+  pub hears-no-switch : 1 < a .levels → heardOf Nothing ≡ heard a
+  unfolding heard heardOf
+  hears-no-switch h = rw (lt-leb (a .levels) 1 h)
 
-  module _ (not-strict : a .choice ≡ 1 → ⊥) where
-    pub hears-lenient : a .choice ≡ 2 → heardOf (Of Lenient) ≡ heard a
+  module _ (switch : a .levels ≤ 1) where
+    pub hears-strict : a .choice ≡ 1 → heardOf (Of Strict) ≡ heard a
     unfolding heard choiceOf heardOf
-    hears-lenient e = rw e
+    hears-strict e = rw (le-leb (a .levels) 1 switch, e)
 
-    pub hears-nothing : (a .choice ≡ 2 → ⊥) → heardOf Nothing ≡ heard a
-    unfolding heard choiceOf heardOf
-    hears-nothing n = rw (ne-eqb (a .choice) 1 not-strict, ne-eqb (a .choice) 2 n)
+    module _ (not-strict : a .choice ≡ 1 → ⊥) where
+      pub hears-lenient : a .choice ≡ 2 → heardOf (Of Lenient) ≡ heard a
+      unfolding heard choiceOf heardOf
+      hears-lenient e = rw (le-leb (a .levels) 1 switch, e)
+
+      pub hears-nothing : (a .choice ≡ 2 → ⊥) → heardOf Nothing ≡ heard a
+      unfolding heard choiceOf heardOf
+      hears-nothing n = rw (le-leb (a .levels) 1 switch, ne-eqb (a .choice) 1 not-strict, ne-eqb (a .choice) 2 n)
 
 -- ---- 2 to 4
 

@@ -1,4 +1,4 @@
-// "1 to 4": what is asked of the choice, the lent table, the number of lent times and the size of the trace.
+// "1 to 4": what is asked of the choice and the levels' switch, the lent table, the number of lent times and the size of the trace.
 ghost use mathlib.Core.Path.{_≡_};
 ghost use Rattle.paper.specs.Answer.{heard, lowLatencies};
 ghost use Rattle.clearance.specs.Clearance.{givenOf, heardOf, clearedUnder, clearance};
@@ -21,6 +21,9 @@ enum Heard {
 fn hear(asked: Asked) -> Heard
     ensures { λ r. ⌜ heardOf r ≡ heard asked ⌝ }
 {
+    if 1 < asked.levels {
+        return Heard::Nothing;
+    }
     if asked.choice == 1 {
         return Heard::Of(Choice::Strict);
     }

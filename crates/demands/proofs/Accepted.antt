@@ -84,7 +84,7 @@ module _ (i : Inputs) (a : Accepted i) where
   passed-is = ap (λ (o : Outcome). o .answer .passed) (judge-accepted i a)
 
   pub along-trace : Reads (a .choice) (most (given i)) (linesOf (i .trace)) 1 start (entries i (a .choice)) (reading i (a .choice) .state)
-  along-trace = along (a .choice) (most (given i)) (i .trace) (a .matched .read .whole)
+  along-trace = along (a .choice) (most (given i)) (i .trace) (a .matched .levelled .read .whole)
 
   passed-lines : reading i (a .choice) .state .passed ≡ passedIn (a .choice) (linesOf (i .trace))
   unfolding start
@@ -111,7 +111,7 @@ module _ (i : Inputs) (a : Accepted i) where
         moves = verdict-is .moves;
         consistent = rw matched-is (verdict-is .consistent);
         places = rw (times-are i a, length-append, length-drop)
-            (omega (arith, a .matched .read .begun .lengths .1, size i a, few-entries (a .choice) (most (given i)) (i .trace) (a .matched .read .whole)));
+            (omega (arith, a .matched .levelled .read .begun .lengths .1, size i a, few-entries (a .choice) (most (given i)) (i .trace) (a .matched .levelled .read .whole)));
         later = later;
         writes = rw corrected-are written-trace;
         written-length = rw corrected-are written-is;
@@ -120,4 +120,4 @@ module _ (i : Inputs) (a : Accepted i) where
       }
 
   pub accepted-answer : (choice : Choice) → Chosen i choice → AcceptedAnswer i choice
-  accepted-answer choice c = rw (one-choice i (a .choice) choice (a .matched .read .begun .chosen) c) at told
+  accepted-answer choice c = rw (one-choice i (a .choice) choice (a .matched .levelled .read .begun .chosen) c) at told

@@ -9,12 +9,15 @@ use lib.IntN.{ℤ}
 use lib.Signed.{<ℤ-irrefl}
 use Rattle.paper.specs.Clock.{timeAt}
 use Rattle.paper.specs.Reading.{State, Reading, linesOf, readOf, start}
+use Rattle.paper.specs.Levels.{levelsOf}
 use Rattle.paper.specs.Written.{writtenFrom}
 use Rattle.paper.specs.Answer.{Inputs, given, most, longest, written as bytes}
+use Rattle.paper.specs.declared.Asked.{Asked}
 use Rattle.paper.specs.declared.Choice.{Choice}
 use Rattle.paper.specs.declared.Entry.{Entry}
 use Rattle.paper.specs.declared.Stop.the-variants.{End}
 use Rattle.matching.proofs.Times.{Alike, same-size, same-matched, same-matched-count, same-unreceived-count}
+use Rattle.matching.proofs.Levels.{same-levels}
 use Rattle.reading.proofs.Along.{along-back}
 use Rattle.demands.specs.Parts.{corrected, writtenTrace, written, time}
 use Rattle.demands.specs.Steps.{Chosen, reading, entries, Accepted, original}
@@ -49,7 +52,7 @@ module _ (i : Inputs) (a : Accepted i) where
 
   rise : Rises (start .last) es (a .times)
   rise =
-      let whole = a .matched .read .whole in
+      let whole = a .matched .levelled .read .whole in
       rises es (a .times) (size i a) (originals-place choice (most (given i)) (i .trace) whole)
       (λ k l. between (original es k) (timeAt (a .times) k) (originals-range choice (most (given i)) (i .trace) whole k l) (allowed .above k l) (allowed .format k l))
       (allowed .order)
@@ -73,7 +76,7 @@ asked i e choice times = rw e
 pub stamps-only : (i : Inputs) (a : Accepted i) → i .wanted ≡ true → (choice : Choice) → Chosen i choice
     → SameButStamps choice (linesOf (i .trace)) (corrected i) (linesOf (writtenTrace i))
 stamps-only i a wanted choice c =
-    rw (one-choice i choice (a .choice) c (a .matched .read .begun .chosen), corrected-are i a, written-trace i a, asked i wanted (a .choice) (a .times))
+    rw (one-choice i choice (a .choice) c (a .matched .levelled .read .begun .chosen), corrected-are i a, written-trace i a, asked i wanted (a .choice) (a .times))
     (same-but-stamps (along-trace i a) (clean-lines (i .trace)) (a .times) (size i a))
 
 module _ (i : Inputs) (a : Accepted i) (wanted : i .wanted ≡ true) (short : written i ≤ longest) (j : Inputs) (g : Again i j) where
@@ -106,19 +109,24 @@ module _ (i : Inputs) (a : Accepted i) (wanted : i .wanted ≡ true) (short : wr
   accepted : Accepted j
   accepted =
       let m = a .matched in
+      let begun = m .levelled .read .begun in
       record {
         choice = a .choice;
         rounds = 0;
         times = a .times;
         matched = record {
-          read = record {
-            begun = record {
-              chosen = rw (g .asked) (m .read .begun .chosen);
-              lengths = (rw (g .latencies) (m .read .begun .lengths .0), g .places ∙ m .read .begun .lengths .1 ∙ sym same-limit);
-              low = rw (g .latencies) (m .read .begun .low);
-              short = rw (g .trace, written-length i a) short;
+          levelled = record {
+            read = record {
+              begun = record {
+                chosen = rw (g .asked) (begun .chosen);
+                lengths = (rw (g .latencies) (begun .lengths .0), g .places ∙ begun .lengths .1 ∙ sym same-limit);
+                low = rw (g .latencies) (begun .low);
+                short = rw (g .trace, written-length i a) short;
+              };
+              whole = ap (λ (r : Reading). r .stop) reading-is;
             };
-            whole = ap (λ (r : Reading). r .stop) reading-is;
+            levels = ap (λ (x : Asked). levelsOf x (entries j (a .choice))) (g .asked)
+                ∙ same-levels (i .asked) (entries j (a .choice)) (es i a) alike-entries ∙ m .levelled .levels;
           };
           matches = same-matched (entries j (a .choice)) (es i a) alike-entries ∙ m .matches;
         };
@@ -138,7 +146,7 @@ module _ (i : Inputs) (a : Accepted i) (wanted : i .wanted ≡ true) (short : wr
   unfolding accepted
   steady =
       let fs = entries j (a .choice) in
-      let chosen = accepted .matched .read .begun .chosen in
+      let chosen = accepted .matched .levelled .read .begun .chosen in
       let told = accepted-answer j accepted (a .choice) chosen in
       let matches = matched-is j accepted ∙ same-matched-count fs (es i a) alike-entries ∙ sym (matched-is i a) in
       record {

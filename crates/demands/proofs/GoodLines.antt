@@ -14,7 +14,7 @@ use lib.Dec.{eqb, leb}
 use borrow.Author.Tests.{eq-eqb, ne-eqb, leb-true, leb-false, le-leb, lt-leb, le-ltb}
 use Rattle.paper.specs.Line.{lineOf}
 use Rattle.paper.specs.Reading.{Lines, done, unended, ended, State, start, Reading, checked, withPassed, withListed, withEntry, onLine, readFrom}
-use Rattle.paper.specs.Matching.{entryAt, lastOn}
+use Rattle.paper.specs.Matching.{entryAt, lastOf, lastOn}
 use Rattle.paper.specs.declared.Choice.{Choice}
 use Rattle.paper.specs.declared.Entry.{Entry}
 use Rattle.paper.specs.declared.Fault.{Fault}
@@ -50,7 +50,7 @@ record Held (es : List Entry) (st : State) : Type 0 where
   last : (p : ℕ) → p < 64 → getD (st .last) p (pos 0) ≡ lastTime es p
 
 held-start : Held [] start
-unfolding start lastOn
+unfolding start lastOf
 held-start = record { size = start-size; count = refl; last = λ p h. getD-replicate 64 p (negsuc 999999999999998) (pos 0) h }
 
 held-passed : {es : List Entry} {st : State} → Held es st → Held es (withPassed st)
@@ -74,7 +74,7 @@ module _ (es : List Entry) (e : Entry) where
   time-stays p (some k) q = ap (λ (f : Entry). f .body .time) (entry-stays es (e ∷ []) k (last-on es p (length es) k q .before))
 
   last-more : (p : ℕ) → lastTime more p ≡ cond (eqb (e .body .processor) p) (e .body .time) (lastTime es p)
-  unfolding lastOn
+  unfolding lastOf
   last-more p =
       rw (length-more, last-entry, last-stays es (e ∷ []) p (length es) (omega arith)) (go (eqb (e .body .processor) p))
     where

@@ -5,7 +5,9 @@ pub mod Stops
 pub mod Reached
 pub mod Judged
 pub mod LineRows
+pub mod InOrder
 pub mod GoodLines
+pub mod LevelRows
 pub mod ReceiveRows
 pub mod Said
 pub mod Closed
@@ -13,7 +15,6 @@ pub mod Rows
 pub mod Exactly
 pub mod Refusals
 pub mod Recorded
-pub mod InOrder
 pub mod Allowed
 pub mod Times
 pub mod Impossible

@@ -14,7 +14,7 @@ faultOf n =
     getD
     (Fault.BadChoice ∷ Fault.BadChoice ∷ Fault.WrongLength ∷ Fault.HighLatency ∷ Fault.LongTrace ∷ Fault.Form ∷ Fault.Stamp
     ∷ Fault.Unlisted ∷ Fault.NotHandled ∷ Fault.Place ∷ Fault.NoMessage ∷ Fault.Backwards ∷ Fault.TooMany ∷ Fault.NoSend
-    ∷ Fault.OtherLength ∷ Fault.NoTimes ∷ Fault.NoRoom ∷ [])
+    ∷ Fault.OtherLength ∷ Fault.NoTimes ∷ Fault.NoRoom ∷ Fault.OtherLevels ∷ [])
     n Fault.BadChoice
 
 back : (fault : Fault) → faultOf (numberOf fault) ≡ fault
@@ -35,6 +35,7 @@ back Fault.NoSend = refl
 back Fault.OtherLength = refl
 back Fault.NoTimes = refl
 back Fault.NoRoom = refl
+back Fault.OtherLevels = refl
 
 pub one-fault : (a b : Fault) → numberOf a ≡ numberOf b → a ≡ b
 one-fault a b e = sym (back a) ∙ ap faultOf e ∙ back b

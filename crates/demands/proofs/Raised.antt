@@ -6,9 +6,11 @@ use mathlib.Core.Path.{_≡_, refl, sym, ap, _∙_}
 use lib.ListN.{length, getD, List·getD-eq-default}
 use lib.Signed.{_≤ℤ_}
 use Rattle.paper.specs.Clock.{settled, settle}
+use Rattle.paper.specs.Levels.{levelsOf}
 use Rattle.paper.specs.Matching.{entryAt, latencyFor, waitsOf}
 use Rattle.paper.specs.Reading.{Reading, readOf}
 use Rattle.paper.specs.Answer.{Inputs, given, most}
+use Rattle.paper.specs.declared.Asked.{Asked}
 use Rattle.paper.specs.declared.Choice.{Choice}
 use Rattle.paper.specs.declared.Role.{Role}
 use Rattle.paper.specs.declared.Role.the-variants.{Neither, Send, Receive}
@@ -68,15 +70,20 @@ module _ (i j : Inputs) (raised : Raised i j) where
     -- the earlier checks pass under the new table too
     matched-too : Matched i choice → Matched j choice
     matched-too m =
+        let read = m .levelled .read in
         record {
-          read = record {
-            begun = record {
-              chosen = rw (raised .asked) (m .read .begun .chosen);
-              lengths = (raised .to .size, places ∙ m .read .begun .lengths .1 ∙ sym same-limit);
-              low = raised .to .low;
-              short = rw (raised .trace) (m .read .begun .short);
+          levelled = record {
+            read = record {
+              begun = record {
+                chosen = rw (raised .asked) (read .begun .chosen);
+                lengths = (raised .to .size, places ∙ read .begun .lengths .1 ∙ sym same-limit);
+                low = raised .to .low;
+                short = rw (raised .trace) (read .begun .short);
+              };
+              whole = rw same-reading (read .whole);
             };
-            whole = rw same-reading (m .read .whole);
+            levels = ap (λ (x : Asked). levelsOf x (entries j choice)) (raised .asked) ∙ ap (levelsOf (i .asked)) same-entries
+                ∙ m .levelled .levels;
           };
           matches = rw same-entries (m .matches);
         }
@@ -99,9 +106,9 @@ module _ (i j : Inputs) (raised : Raised i j) where
   pub none-earlier : (a : Accepted i) (b : Accepted j) → (k : ℕ) → k < listed i → time i k ≤ℤ time j k
   unfolding waitsOf
   none-earlier a b k l =
-      let same : b .choice ≡ a .choice = one-choice i (b .choice) (a .choice) (rw (raised .asked) at (b .matched .read .begun .chosen)) (a .matched .read .begun .chosen) in
+      let same : b .choice ≡ a .choice = one-choice i (b .choice) (a .choice) (rw (raised .asked) at (b .matched .levelled .read .begun .chosen)) (a .matched .levelled .read .begun .chosen) in
       let same-records : entries j (a .choice) ≡ entries i (a .choice) =
-      same-whole (a .choice) (a .matched .read) (rw same at (b .matched .read .whole)) in
+      same-whole (a .choice) (a .matched .levelled .read) (rw same at (b .matched .levelled .read .whole)) in
       let inside : k < length (entries i (a .choice)) = rw (← listed-is i a) l in
       let settles-new : settle (waits j (a .choice)) ≡ settled (b .rounds) (b .times) = rw (← same) (b .settles) in
       rw (time-is i a k inside, time-is j b k (rw (same, same-records) inside))

@@ -5,14 +5,15 @@ use mathlib.Core.Path.{_≡_, ap, _∙_}
 use mathlib.Core.Option.{none}
 use mathlib.Core.List.{List}
 use lib.IntN.{ℤ}
+use Rattle.paper.specs.Levels.{levelsOf}
 use Rattle.paper.specs.Matching.{matchedOf}
 use Rattle.paper.specs.Clock.{impossible, settled, settle}
-use Rattle.paper.specs.Answer.{Inputs, given, heard, Found, stopped, found, reach, onChoice, onRead, onMatched, onSettled}
+use Rattle.paper.specs.Answer.{Inputs, given, heard, Found, stopped, found, reach, onChoice, onRead, onLevels, onMatched, onSettled}
 use Rattle.paper.specs.declared.Choice.{Choice}
 use Rattle.paper.specs.declared.Fault.{Fault}
 use Rattle.paper.specs.declared.Fault.the-variants as Fault
-use Rattle.demands.specs.Steps.{Chosen, RightLengths, LowLatencies, ShortTrace, Begun, reading, entries, Read, Matched, waits}
-use Rattle.demands.proofs.Stops.{BadLine, BadReceive}
+use Rattle.demands.specs.Steps.{Chosen, RightLengths, LowLatencies, ShortTrace, Begun, reading, entries, Read, Levelled, Matched, waits}
+use Rattle.demands.proofs.Stops.{BadLine, BadLevels, BadReceive}
 use Rattle.demands.proofs.Tests.{not-told, lengths-tell, lows-tell, short-tells}
 
 -- what a call has found that settles so
@@ -43,13 +44,17 @@ module _ (i : Inputs) where
     unfolding reach onChoice
     reach-begun b = rw (b .chosen, lengths-tell i .told (b .lengths), lows-tell i .told (b .low), short-tells i .told (b .short))
 
-    reach-read : Read i choice → reach (given i) ≡ onMatched (given i) choice (reading i choice) (matchedOf (entries i choice))
+    reach-read : Read i choice → reach (given i) ≡ onLevels (given i) choice (reading i choice) (levelsOf (i .asked) (entries i choice))
     unfolding onRead
     reach-read r = reach-begun (r .begun) ∙ ap (onRead (given i) choice (reading i choice)) (r .whole)
 
+    reach-levelled : Levelled i choice → reach (given i) ≡ onMatched (given i) choice (reading i choice) (matchedOf (entries i choice))
+    unfolding onLevels
+    reach-levelled l = reach-read (l .read) ∙ ap (onLevels (given i) choice (reading i choice)) (l .levels)
+
     reach-matched : Matched i choice → reach (given i) ≡ onSettled choice (reading i choice) (settle (waits i choice))
     unfolding onMatched
-    reach-matched m = reach-read (m .read) ∙ ap (onMatched (given i) choice (reading i choice)) (m .matches)
+    reach-matched m = reach-levelled (m .levelled) ∙ ap (onMatched (given i) choice (reading i choice)) (m .matches)
 
     pub reach-times : Matched i choice → settle (waits i choice) ≡ impossible → reach (given i) ≡ stopped Fault.NoTimes 0
     unfolding onSettled
@@ -64,6 +69,10 @@ module _ (i : Inputs) where
   unfolding onRead
   reach-line fault n b = reach-begun (b .choice) (b .begun) ∙ ap (onRead (given i) (b .choice) (reading i (b .choice))) (b .stops)
 
+  pub reach-levels : (fault : Fault) (n : ℕ) → BadLevels i fault n → reach (given i) ≡ stopped fault n
+  unfolding onLevels
+  reach-levels fault n b = reach-read (b .choice) (b .read) ∙ ap (onLevels (given i) (b .choice) (reading i (b .choice))) (b .calls)
+
   pub reach-receive : (fault : Fault) (n : ℕ) → BadReceive i fault n → reach (given i) ≡ stopped fault n
   unfolding onMatched
-  reach-receive fault n b = reach-read (b .choice) (b .read) ∙ ap (onMatched (given i) (b .choice) (reading i (b .choice))) (b .calls)
+  reach-receive fault n b = reach-levelled (b .choice) (b .levelled) ∙ ap (onMatched (given i) (b .choice) (reading i (b .choice))) (b .calls)

@@ -9,6 +9,7 @@ use lib.ListN.{length}
 use lib.IntN.{ℤ}
 use lib.Dec.{leb}
 use Rattle.paper.specs.Reading.{unended}
+use Rattle.paper.specs.Levels.{levelsOf}
 use Rattle.paper.specs.Matching.{matchedOf}
 use Rattle.paper.specs.Clock.{Settled, impossible, settled, settle}
 use Rattle.paper.specs.Answer.{Inputs, given, longest, heard, rightLengths, lowLatencies, stopped, reach}
@@ -18,7 +19,7 @@ use Rattle.paper.specs.declared.Fault.the-variants as Fault
 use Rattle.paper.specs.declared.Stop.{Stop}
 use Rattle.paper.specs.declared.Stop.the-variants.{End, At}
 use Rattle.rounds.proofs.Meaning.{impossible-iff}
-use Rattle.demands.specs.Steps.{Chosen, RightLengths, LowLatencies, Begun, reading, entries, Read, Matched, waits}
+use Rattle.demands.specs.Steps.{Chosen, RightLengths, LowLatencies, Begun, reading, entries, Read, Levelled, Matched, waits}
 use Rattle.demands.specs.Rows.{NoSend, OtherLength}
 use Rattle.demands.specs.Table.{When}
 use Rattle.demands.proofs.Tests.{untold, lengths-tell, lows-tell, short-tells, unchosen, neither}
@@ -26,8 +27,8 @@ use Rattle.demands.proofs.Closed.{waits-closed}
 use Rattle.demands.proofs.LineRows.{form-row, stamp-row, strict-row, handled-row, place-row, message-row}
 use Rattle.demands.proofs.GoodLines.{no-end, backwards, too-many}
 use Rattle.demands.proofs.ReceiveRows.{no-send-calls, other-length-calls}
-use Rattle.demands.proofs.Said.{bad-stops, line-stops, call-stops, when-line, when-receive}
-use Rattle.demands.proofs.Reached.{reach-choice, reach-length, reach-latency, reach-long, reach-line, reach-receive, reach-times}
+use Rattle.demands.proofs.Said.{bad-stops, line-stops, levels-stop, call-stops, when-line, when-levels, when-receive}
+use Rattle.demands.proofs.Reached.{reach-choice, reach-length, reach-latency, reach-long, reach-line, reach-levels, reach-receive, reach-times}
 
 -- a call that has times
 pub record Timed (i : Inputs) : Type 0 where
@@ -49,13 +50,18 @@ module _ (i : Inputs) where
     on-times m impossible e = inr (Fault.NoTimes, 0, (choice, m, impossible-iff (waits i choice) (waits-closed (i .latencies) (entries i choice)) .0 e, refl))
     on-times m (settled rounds times) e = inl (record { choice = choice; rounds = rounds; times = times; matched = m; settles = e })
 
-    on-receives : Read i choice → (s : Stop) → matchedOf (entries i choice) ≡ s → Timed i ⊎ Row
-    on-receives r End e = on-times (record { read = r; matches = e }) _ refl
-    on-receives r (At fault n) e =
-        inr (fault, n, when-receive i fault n (record { choice = choice; read = r; calls = e }))
+    on-receives : Levelled i choice → (s : Stop) → matchedOf (entries i choice) ≡ s → Timed i ⊎ Row
+    on-receives l End e = on-times (record { levelled = l; matches = e }) _ refl
+    on-receives l (At fault n) e =
+        inr (fault, n, when-receive i fault n (record { choice = choice; levelled = l; calls = e }))
+
+    on-levels : Read i choice → (s : Stop) → levelsOf (i .asked) (entries i choice) ≡ s → Timed i ⊎ Row
+    on-levels r End e = on-receives (record { read = r; levels = e }) _ refl
+    on-levels r (At fault n) e =
+        inr (fault, n, when-levels i fault n (record { choice = choice; read = r; calls = e }))
 
     on-lines : Begun i choice → (s : Stop) → reading i choice .stop ≡ s → Timed i ⊎ Row
-    on-lines b End e = on-receives (record { begun = b; whole = e }) _ refl
+    on-lines b End e = on-levels (record { begun = b; whole = e }) _ refl
     on-lines b (At fault n) e =
         inr (fault, n, when-line i fault n (record { choice = choice; begun = b; stops = e }))
 
@@ -76,7 +82,7 @@ module _ (i : Inputs) where
 
   on-choice : (o : Option Choice) → heard (i .asked) ≡ o → Timed i ⊎ Row
   unfolding When
-  on-choice none e = let (one, two) = neither (i .asked) e in inr (Fault.BadChoice, 0, (one, two, refl))
+  on-choice none e = inr (Fault.BadChoice, 0, (neither (i .asked) e, refl))
   on-choice (some choice) e = on-lengths choice e _ refl
 
   pub reached : Timed i ⊎ Row
@@ -86,7 +92,7 @@ module _ (i : Inputs) where
 
   pub row-stops : (fault : Fault) (n : ℕ) → When i fault n → (reach (given i) ≡ stopped fault n) ⊎ (fault ≡ Fault.NoRoom)
   unfolding When
-  row-stops Fault.BadChoice n (one, two, e) = inl (reach-choice i (unchosen (i .asked) one two) ∙ ap (stopped Fault.BadChoice) (sym e))
+  row-stops Fault.BadChoice n (unheard, e) = inl (reach-choice i (unchosen (i .asked) unheard) ∙ ap (stopped Fault.BadChoice) (sym e))
   row-stops Fault.WrongLength n (choice, c, l, e) = inl (reach-length i choice c l ∙ ap (stopped Fault.WrongLength) (sym e))
   row-stops Fault.HighLatency n (choice, c, l, h, e) = inl (reach-latency i choice c l h ∙ ap (stopped Fault.HighLatency) (sym e))
   row-stops Fault.LongTrace n (choice, c, l, h, s, e) = inl (reach-long i choice c l h s ∙ ap (stopped Fault.LongTrace) (sym e))
@@ -99,6 +105,7 @@ module _ (i : Inputs) where
   row-stops Fault.NoMessage n (at, r) = inl (reach-line i Fault.NoMessage n (line-stops i n at Fault.NoMessage (message-row r)))
   row-stops Fault.Backwards n (at, r) = inl (reach-line i Fault.Backwards n (bad-stops i n _ (at .comes) Fault.Backwards (backwards r)))
   row-stops Fault.TooMany n (at, r) = inl (reach-line i Fault.TooMany n (bad-stops i n _ (at .comes) Fault.TooMany (too-many r)))
+  row-stops Fault.OtherLevels n o = inl (reach-levels i Fault.OtherLevels n (levels-stop i n o))
   row-stops Fault.NoSend n f = inl (reach-receive i Fault.NoSend n (call-stops i n Fault.NoSend NoSend no-send-calls f))
   row-stops Fault.OtherLength n f = inl (reach-receive i Fault.OtherLength n (call-stops i n Fault.OtherLength OtherLength other-length-calls f))
   row-stops Fault.NoTimes n (choice, m, none-sound, e) =

@@ -2,16 +2,18 @@
 use Prim.Native.Nat.{ℕ, zero, suc, _≤_, _<_}
 use native.Mathlib.Omega.{arith}
 use mathlib.Core.Path.{_≡_, refl}
-use mathlib.Core.Bool.{Bool, true, false}
-use mathlib.Core.Option.{none}
+use mathlib.Core.Bool.{Bool, true, false, cond}
+use mathlib.Core.Logic.{inl, inr}
+use mathlib.Core.Option.{Option, none}
 use mathlib.Core.List.{List, [], _∷_}
 use lib.ListN.{length, getD}
 use lib.Dec.{leb}
-use borrow.Author.Tests.{eqb-true, eq-eqb, ne-eqb, leb-true, le-leb}
+use borrow.Author.Tests.{eqb-true, eq-eqb, ne-eqb, leb-true, leb-false, le-leb, lt-leb}
 use Rattle.paper.specs.Answer.{Given, Inputs, given, most, longest, choiceOf, heard, rightLengths, lowLatencies}
 use Rattle.paper.specs.declared.Asked.{Asked}
+use Rattle.paper.specs.declared.Choice.{Choice}
 use Rattle.forms.proofs.Tests.{both, never}
-use Rattle.demands.specs.Steps.{RightLengths, LowLatencies, ShortTrace}
+use Rattle.demands.specs.Steps.{Unheard, RightLengths, LowLatencies, ShortTrace}
 
 -- a test tells a fact
 pub record Tells (b : Bool) (P : Type 0) : Type 0 where
@@ -50,17 +52,23 @@ lows-tell i = record { holds = lows-hold (i .latencies); told = lows-told (i .la
 pub short-tells : (i : Inputs) → Tells (leb (length (i .trace)) longest) (ShortTrace i)
 short-tells i = record { holds = leb-true _ _; told = le-leb _ _ }
 
--- "choice is neither 1 (strict) nor 2 (lenient)"
-pub unchosen : (a : Asked) → ¬ (a .choice ≡ 1) → ¬ (a .choice ≡ 2) → heard a ≡ none
+-- 1
+pub unchosen : (a : Asked) → Unheard a → heard a ≡ none
 unfolding heard choiceOf
-unchosen a one two = rw (ne-eqb (a .choice) 1 one, ne-eqb (a .choice) 2 two)
+unchosen a (inl (one, two)) = rw (ne-eqb (a .choice) 1 one, ne-eqb (a .choice) 2 two) (go (leb (a .levels) 1))
+  where
+    go : (t : Bool) → _≡_ {A = Option Choice} (cond t none none) none
+    go true = refl
+    go false = refl
+unchosen a (inr (off, on)) = rw (lt-leb (a .levels) 1 (omega arith))
 
-pub neither : (a : Asked) → heard a ≡ none → (¬ (a .choice ≡ 1)) × (¬ (a .choice ≡ 2))
+pub neither : (a : Asked) → heard a ≡ none → Unheard a
 unfolding heard choiceOf
-neither a e = (
-  λ p. let h = rw p at e in never (cc),
-  λ p. let h = rw p at e in never (cc),
-)
+neither a e = go (leb (a .levels) 1) refl e
+  where
+    go : (t : Bool) → leb (a .levels) 1 ≡ t → cond t (choiceOf (a .choice)) none ≡ none → Unheard a
+    go true t e = inl (λ p. let h = rw p at e in never (cc), λ p. let h = rw p at e in never (cc))
+    go false t e = let more = leb-false (a .levels) 1 t in inr (λ p. omega arith, λ p. omega arith)
 
 -- how many records may be listed does not look at the trace or at the table
 pub same-most : (g h : Given) → g .places ≡ h .places → most g ≡ most h

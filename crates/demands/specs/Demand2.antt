@@ -57,7 +57,7 @@ pub data SameButStamps (choice : Choice) : Lines → List ℤ → Lines → Type
 
 -- ---- reading it again
 
--- j reads what i wrote, "under that table and choice"
+-- j reads what i wrote, "under that table and choice", and "under the same four numbers" of the levels
 pub record Again (i j : Inputs) : Type 0 where
   pub trace : j .trace ≡ writtenTrace i
   pub latencies : j .latencies ≡ i .latencies

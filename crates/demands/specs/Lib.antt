@@ -2,6 +2,7 @@
 pub mod Parts
 pub mod Steps
 pub mod Before
+pub mod Levels
 pub mod Rows
 pub mod Table
 pub mod Records

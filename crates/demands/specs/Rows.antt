@@ -30,6 +30,7 @@ use Rattle.paper.specs.declared.Role.the-variants.{Receive}
 use Rattle.paper.specs.declared.Standing.the-variants as Standing
 use Rattle.matching.specs.Belongs.{role, Belongs}
 use Rattle.demands.specs.Before.{Below, ComesTo}
+use Rattle.demands.specs.Levels.{AtLevels}
 
 -- ---- the six fields
 
@@ -126,11 +127,12 @@ NoSend es k = (m : Message) × (role es k ≡ Receive m) × ((j : ℕ) → ¬ Be
 abbrev pub OtherLength : List Entry → ℕ → Type 0
 OtherLength es k = (j : ℕ) × (b : Belongs es k j) × (¬ (b .received .length ≡ b .sent .length))
 
--- "then the first receive in file order that calls for 13 or 14": all lines are good, and it calls for this
+-- "then the first receive in file order that calls for 13 or 14": all lines are good, 17 is not called for, and it calls for this
 pub record FirstReceive (i : Inputs) (line : ℕ) (calls : List Entry → ℕ → Type 0) : Type 0 where
   -- one more than there are lines
   pub end : ℕ
   pub comes : ComesTo i end done
+  pub levels : AtLevels (i .asked) (comes .before)
   pub place : ℕ
   pub within : place < length (comes .before)
   pub its-line : entryAt (comes .before) place .line ≡ line

@@ -1,14 +1,17 @@
--- How far a call comes: the checks that it passes, in document 01's order.
+-- How far a call comes: the checks that it passes, in document 01's order, with 17 between the lines and 13.
 use Prim.Native.Nat.{ℕ, _≤_, _<_}
 use mathlib.Core.Path.{_≡_}
+use mathlib.Core.Logic.{_⊎_}
 use mathlib.Core.Option.{some}
 use mathlib.Core.List.{List}
 use lib.ListN.{length, getD}
 use lib.IntN.{ℤ}
 use Rattle.paper.specs.Reading.{Reading, readOf}
+use Rattle.paper.specs.Levels.{levelsOf}
 use Rattle.paper.specs.Matching.{entryAt, matchedOf, waitsOf}
 use Rattle.paper.specs.Clock.{Waits, settle, settled}
 use Rattle.paper.specs.Answer.{Inputs, given, most, longest, heard, written}
+use Rattle.paper.specs.declared.Asked.{Asked}
 use Rattle.paper.specs.declared.Choice.{Choice}
 use Rattle.paper.specs.declared.Entry.{Entry}
 use Rattle.paper.specs.declared.Stop.the-variants.{End}
@@ -17,6 +20,10 @@ use Rattle.paper.specs.declared.Stop.the-variants.{End}
 
 abbrev pub Chosen : Inputs → Choice → Type 0
 Chosen i choice = heard (i .asked) ≡ some choice
+
+-- and where 1 does not pass: "choice is neither 1 (strict) nor 2 (lenient)", or the levels are neither "0 for off .. or 1 for on"
+abbrev pub Unheard : Asked → Type 0
+Unheard a = ((¬ (a .choice ≡ 1)) × (¬ (a .choice ≡ 2))) ⊎ ((¬ (a .levels ≡ 0)) × (¬ (a .levels ≡ 1)))
 
 abbrev pub RightLengths : Inputs → Type 0
 RightLengths i = (length (i .latencies) ≡ 4096) × (length (i .times) ≡ most (given i))
@@ -51,11 +58,18 @@ pub record Read (i : Inputs) (choice : Choice) : Type 0 where
   pub begun : Begun i choice
   pub whole : reading i choice .stop ≡ End
 
+-- ---- "After the lines are read, and before 13, refuse with 17"
+
+-- no processor calls for it
+pub record Levelled (i : Inputs) (choice : Choice) : Type 0 where
+  pub read : Read i choice
+  pub levels : levelsOf (i .asked) (entries i choice) ≡ End
+
 -- ---- "then the first receive .. that calls for 13 or 14"
 
 -- no receive does
 pub record Matched (i : Inputs) (choice : Choice) : Type 0 where
-  pub read : Read i choice
+  pub levelled : Levelled i choice
   pub matches : matchedOf (entries i choice) ≡ End
 
 -- ---- "then 15; then 16"

@@ -1,4 +1,5 @@
--- Document 01's table of numbers, row by row: "given exactly when", with the line. Each row has the checks before it passed.
+-- Document 01's table of numbers, and 17 of the first change request, row by row: "given exactly when", with the line. Each row has the
+-- checks before it passed.
 use Prim.Native.Nat.{ℕ, _<_}
 use mathlib.Core.Path.{_≡_}
 use mathlib.Core.Logic.{_⊎_}
@@ -12,13 +13,14 @@ use Rattle.paper.specs.Answer.{Inputs, given, most, written}
 use Rattle.paper.specs.declared.Choice.{Choice}
 use Rattle.paper.specs.declared.Fault.{Fault}
 use Rattle.paper.specs.declared.Fault.the-variants as Fault
-use Rattle.demands.specs.Steps.{Chosen, RightLengths, LowLatencies, ShortTrace, Matched, waits}
+use Rattle.demands.specs.Steps.{Chosen, Unheard, RightLengths, LowLatencies, ShortTrace, Matched, waits}
 use Rattle.demands.specs.Before.{ComesTo, AtLine}
+use Rattle.demands.specs.Levels.{OtherLevels}
 use Rattle.demands.specs.Rows.{BadForm, BadStamp, UnlistedStrict, NotHandled, BadPlace, NoMessage, Backwards, TooMany, NoSend, OtherLength, FirstReceive}
 
 unfoldable pub When : Inputs → Fault → ℕ → Type 0
--- "choice is neither 1 (strict) nor 2 (lenient)"
-When i Fault.BadChoice line = (¬ (i .asked .choice ≡ 1)) × (¬ (i .asked .choice ≡ 2)) × (line ≡ 0)
+-- "choice is neither 1 (strict) nor 2 (lenient)"; of the levels "0 for off .. or 1 for on; any other is refusal 1"
+When i Fault.BadChoice line = Unheard (i .asked) × (line ≡ 0)
 -- "table or times of the wrong length"
 When i Fault.WrongLength line = (choice : Choice) × Chosen i choice × (¬ RightLengths i) × (line ≡ 0)
 -- "a latency above 1,000,000"
@@ -42,6 +44,8 @@ When i Fault.NoMessage line = (at : AtLine i line) × NoMessage (at .line)
 When i Fault.Backwards line = (at : AtLine i line) × Backwards (at .comes .before) (at .comes .choice) (at .line)
 -- "listed record number 2,049"
 When i Fault.TooMany line = (at : AtLine i line) × TooMany (most (given i)) (at .comes .before) (at .comes .choice) (at .line)
+-- "a processor with listed records has no such mark, or its last one differs from the expected three"
+When i Fault.OtherLevels line = OtherLevels i line
 -- "receive without a matching send"
 When i Fault.NoSend line = FirstReceive i line NoSend
 -- "its length differs from the send's"

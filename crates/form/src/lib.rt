@@ -2,6 +2,7 @@
 // stands the code that reads them, and its public functions take anything.
 mod read;
 
+pub use read::has_minus;
 ghost use mathlib.Core.Path.{_≡_};
 ghost use Rattle.paper.specs.Forms.{wholeOf, timeOf};
 use paper::Field;

@@ -80,7 +80,7 @@ pub(crate) fn time_size(s: &[u8]) -> Size
     }
 }
 
-pub(crate) fn has_minus(s: &[u8]) -> bool
+pub fn has_minus(s: &[u8]) -> bool
     ensures { λ r. ⌜ r ≡ hasMinus (now (s .entry)) ⌝ }
 {
     if s.len() == 0 { false } else { s[0] == b'-' }

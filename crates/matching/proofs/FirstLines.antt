@@ -7,7 +7,7 @@ use mathlib.Core.List.{List, _++_}
 use lib.ListN.{length, length-append, List·getD-append}
 use lib.Seq.{take-append-le}
 use Rattle.paper.specs.Clock.{Waits}
-use Rattle.paper.specs.Matching.{Key, isSendOf, sendPlace, sendFor, entryAt, sendOf, matchedOf, lastOn, latencyFor, waitsOf}
+use Rattle.paper.specs.Matching.{Key, isSendOf, sendPlace, sendFor, entryAt, sendOf, matchedOf, lastOf, lastOn, latencyFor, waitsOf}
 use Rattle.paper.specs.declared.Message.{Message}
 use Rattle.paper.specs.declared.Role.{Role}
 use Rattle.paper.specs.declared.Role.the-variants.{Neither, Send, Receive}
@@ -73,7 +73,7 @@ module _ (es more : List Entry) where
       (λ m r. let (j, e, same) = every-receive es h i l m r in rw (entry-stays i l) at (kept-send i j l e) ∙ sym e))
 
   pub last-stays : (processor i : ℕ) → i ≤ length es → lastOn (es ++ more) processor i ≡ lastOn es processor i
-  unfolding lastOn
+  unfolding lastOf
   last-stays processor zero l = refl
   last-stays processor (suc i) l = rw (entry-stays i (omega arith), last-stays processor i (omega arith))
 

@@ -7,7 +7,7 @@ use mathlib.Core.Option.{Option, none, some}
 use mathlib.Core.List.{List, [], _∷_, map}
 use lib.ListN.{length, take, length-map, List·getD-map}
 use lib.IntN.{pos}
-use Rattle.paper.specs.Matching.{Key, countIf, isReceiveOf, sendPlace, sendFor, entryAt, sendOf, callOf, callFor, matchedFrom, matchedOf, isSend, isReceive, matchedCount, unreceivedCount}
+use Rattle.paper.specs.Matching.{Key, countIf, isReceiveOf, sendPlace, sendFor, entryAt, sendOf, callOf, callFor, matchedFrom, matchedOf, isSend, isReceive, matchedCount, unreceivedCount, lastOf}
 use Rattle.paper.specs.declared.Role.{Role}
 use Rattle.paper.specs.declared.Role.the-variants.{Neither, Send, Receive}
 use Rattle.paper.specs.declared.Entry.{Entry}
@@ -48,6 +48,12 @@ unfolding sendPlace
 place-untimed key k [] = refl
 place-untimed key zero (e ∷ es) = rw (place-untimed key zero es)
 place-untimed key (suc k) (e ∷ es) = rw (place-untimed key k es, place-untimed key (suc k) es)
+
+pub last-untimed : (test : Entry → Bool) → ((e : Entry) → test (untimed e) ≡ test e) → (es : List Entry) (i : ℕ)
+    → lastOf test (map untimed es) i ≡ lastOf test es i
+unfolding lastOf
+last-untimed test h es zero = refl
+last-untimed test h es (suc i) = rw (entry-untimed es i, h (entryAt es i), last-untimed test h es i)
 
 module _ (es : List Entry) where
   send-for-untimed : (i processor : ℕ) (r : Role) → sendFor (map untimed es) i processor r ≡ sendFor es i processor r

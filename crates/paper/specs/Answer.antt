@@ -1,5 +1,5 @@
--- Document 01, "Numbers a caller gets back", in its order: 1 to 4, the lines, 13 and 14, 15, which is as far as a call reaches; then
--- 16 and acceptance; and what the lent times and the room hold afterwards.
+-- Document 01, "Numbers a caller gets back", in its order: 1 to 4, the lines, 17 of the first change request, 13 and 14, 15, which is as
+-- far as a call reaches; then 16 and acceptance; and what the lent times and the room hold afterwards.
 use Prim.Native.Nat.{ℕ, zero, suc}
 use mathlib.Core.List.{List, [], _∷_, _++_}
 use mathlib.Core.Bool.{Bool, true, false, cond, _&&_, not}
@@ -9,6 +9,7 @@ use lib.IntN.{ℤ}
 use lib.Dec.{ltb, leb, eqb}
 use Rattle.paper.specs.Numbers.{numberOf}
 use Rattle.paper.specs.Reading.{Reading, linesOf, readOf}
+use Rattle.paper.specs.Levels.{levelsOf}
 use Rattle.paper.specs.Matching.{matchedOf, matchedCount, unreceivedCount, waitsOf}
 use Rattle.paper.specs.Clock.{Settled, impossible, settled, settle, same, listed, Waits}
 use Rattle.paper.specs.Written.{writtenFrom}
@@ -44,9 +45,9 @@ longest = 65536
 unfoldable pub choiceOf : ℕ → Option Choice
 choiceOf n = cond (eqb n 1) (some Strict) (cond (eqb n 2) (some Lenient) none)
 
--- what the caller names, none for refusal 1
+-- what the caller names, none for refusal 1: "0 for off .. or 1 for on; any other is refusal 1"
 unfoldable pub heard : Asked → Option Choice
-heard a = choiceOf (a .choice)
+heard a = cond (leb (a .levels) 1) (choiceOf (a .choice)) none
 
 -- "exactly 4,096 unsigned whole numbers", "exactly 2,048 signed 64-bit places": false for refusal 2
 unfoldable pub rightLengths : Given → Bool
@@ -80,10 +81,15 @@ unfoldable pub onMatched : Given → Choice → Reading → Stop → Reached
 onMatched g choice r (At fault line) = stopped fault line
 onMatched g choice r End = onSettled choice r (settle (waitsOf (g .latencies) (r .entries)))
 
+-- "After the lines are read, and before 13, refuse with 17"
+unfoldable pub onLevels : Given → Choice → Reading → Stop → Reached
+onLevels g choice r (At fault line) = stopped fault line
+onLevels g choice r End = onMatched g choice r (matchedOf (r .entries))
+
 -- "then line by line, the first bad line deciding"
 unfoldable pub onRead : Given → Choice → Reading → Stop → Reached
 onRead g choice r (At fault line) = stopped fault line
-onRead g choice r End = onMatched g choice r (matchedOf (r .entries))
+onRead g choice r End = onLevels g choice r (levelsOf (g .asked) (r .entries))
 
 -- "1 to 4"
 unfoldable pub onChoice : Given → Option Choice → Reached

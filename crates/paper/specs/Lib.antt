@@ -1,5 +1,5 @@
--- Document 01 as definitions, a file to each part. `Answer` is the whole, from a call's inputs to its outcome; the others stand in
--- the order in which that reads them.
+-- Document 01 as definitions, with the change requests, a file to each part. `Answer` is the whole, from a call's inputs to its outcome;
+-- the others stand in the order in which that reads them.
 pub mod Text
 pub mod Tests
 pub mod Numbers
@@ -7,6 +7,7 @@ pub mod Forms
 pub mod Events
 pub mod Line
 pub mod Reading
+pub mod Levels
 pub mod Matching
 pub mod Clock
 pub mod Written

@@ -135,11 +135,17 @@ unreceivedCount es = countIf (λ e. isSend (e .body .role)) es - matchedCount es
 
 -- ---- what the records wait for
 
+-- the last of the first i entries that passes a test
+unfoldable pub lastOf : (Entry → Bool) → List Entry → ℕ → Option ℕ
+lastOf test es zero = none
+lastOf test es (suc i) = let earlier = lastOf test es i in cond (test (entryAt es i)) (some i) earlier
+
+abbrev pub isOn : ℕ → Entry → Bool
+isOn processor e = eqb (e .body .processor) processor
+
 -- the last of the first i entries that is on the processor
-unfoldable pub lastOn : List Entry → ℕ → ℕ → Option ℕ
-lastOn es processor zero = none
-lastOn es processor (suc i) =
-    let earlier = lastOn es processor i in cond (eqb (entryAt es i .body .processor) processor) (some i) earlier
+abbrev pub lastOn : List Entry → ℕ → ℕ → Option ℕ
+lastOn es processor i = lastOf (isOn processor) es i
 
 -- "the entry at 64 times sender plus receiver, in microseconds", for a receive on a processor
 unfoldable pub latencyFor : List ℕ → ℕ → Role → ℕ

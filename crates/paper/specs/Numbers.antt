@@ -1,10 +1,10 @@
--- Document 01, "Numbers a caller gets back": the table's first column.
+-- Document 01, "Numbers a caller gets back": the table's first column; and the number of the first change request.
 use Prim.Native.Nat.{ℕ}
 use Rattle.paper.specs.declared.Fault.{Fault}
 use Rattle.paper.specs.declared.Fault.the-variants as Fault
 
 unfoldable pub numberOf : Fault → ℕ
--- "choice is neither 1 (strict) nor 2 (lenient)"
+-- "choice is neither 1 (strict) nor 2 (lenient)"; "0 for off .. or 1 for on; any other is refusal 1"
 numberOf Fault.BadChoice = 1
 -- "table or times of the wrong length"
 numberOf Fault.WrongLength = 2
@@ -36,3 +36,5 @@ numberOf Fault.OtherLength = 14
 numberOf Fault.NoTimes = 15
 -- "written trace longer than the room lent"
 numberOf Fault.NoRoom = 16
+-- "a processor with listed records has no such mark, or its last one differs from the expected three"
+numberOf Fault.OtherLevels = 17

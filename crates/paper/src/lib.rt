@@ -7,10 +7,15 @@ pub const MOST: usize = 2048;
 // "trace at most 65,536 bytes"
 pub const LONGEST: usize = 65536;
 
-// What the caller names beside the trace and the table, with no default, laid out as C has it.
+// What the caller names beside the trace and the table, with no default, laid out as C has it: the choice, whether the tracing levels
+// are asked for, and the three that are expected then, in the order of a mark's data.
 #[repr(C)]
 pub struct Asked {
     pub choice: u32,
+    pub levels: u32,
+    pub picl: i64,
+    pub user: i64,
+    pub trace: i64,
 }
 
 // "strict or lenient"
@@ -33,7 +38,7 @@ pub enum Standing {
     Unlisted,
 }
 
-// Why something is refused: a case for each row of the paper's table of numbers, from 1 to 16.
+// Why something is refused: a case for each row of the paper's table of numbers, from 1 to 16, and 17 of the first change request.
 pub enum Fault {
     BadChoice,
     WrongLength,
@@ -51,6 +56,7 @@ pub enum Fault {
     OtherLength,
     NoTimes,
     NoRoom,
+    OtherLevels,
 }
 
 // The six fields that every record begins with.

@@ -90,7 +90,7 @@ module _ (g : Given) (store sends before latency : List ℕ) (times spare : List
     -- the lines read from the state that 1 to 4 leave
     pub read-on : (choice : Choice) → reach g ≡ onRead g choice (readOf choice (most g) (g .trace)) (readOf choice (most g) (g .trace) .stop)
         → (store′ sends′ : List ℕ) (times′ : List ℤ) (r : Reached)
-        → fromLines (g .trace) (g .latencies) choice (readOf choice (capacity store) (g .trace)) r store′ sends′ times′
+        → fromLines (g .trace) (g .latencies) (g .asked) choice (readOf choice (capacity store) (g .trace)) r store′ sends′ times′
         → ReachedBy fit g r store′ sends′ times′
     unfolding fromLines
-    read-on choice comes store′ sends′ times′ r says = answered store′ sends′ times′ r (rw comes (rw (whole .0) at (says (g .asked) (g .places))))
+    read-on choice comes store′ sends′ times′ r says = answered store′ sends′ times′ r (rw comes (rw (whole .0) at (says (g .places))))

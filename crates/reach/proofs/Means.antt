@@ -6,8 +6,9 @@ use mathlib.Core.Option.{Option, none, some}
 use native.Mathlib.Omega.{arith}
 use lib.ListN.{length}
 use lib.Dec.{leb}
-use Rattle.paper.specs.Answer.{Given, Found, stopped, found, most, longest, heard, rightLengths, lowLatencies, onSettled, onMatched, onRead, onChoice, reach}
+use Rattle.paper.specs.Answer.{Given, Found, stopped, found, most, longest, heard, rightLengths, lowLatencies, onSettled, onMatched, onLevels, onRead, onChoice, reach}
 use Rattle.paper.specs.Clock.{Settled, impossible, settled, settle}
+use Rattle.paper.specs.Levels.{levelsOf}
 use Rattle.paper.specs.Matching.{matchedOf, waitsOf}
 use Rattle.paper.specs.Reading.{Reading, readOf}
 use Rattle.paper.specs.declared.Choice.{Choice}
@@ -21,6 +22,7 @@ pub record Means (g : Given) (f : Found) : Type 0 where
   pub lengths : rightLengths g ≡ true
   pub reading : f .reading ≡ readOf (f .choice) (most g) (g .trace)
   pub whole : f .reading .stop ≡ End
+  pub levels : levelsOf (g .asked) (f .reading .entries) ≡ End
   pub matches : matchedOf (f .reading .entries) ≡ End
   pub settles : settle (waitsOf (g .latencies) (f .reading .entries)) ≡ settled (f .rounds) (f .times)
 
@@ -41,17 +43,22 @@ module _ (g : Given) (f : Found) where
       (rw q, rw q)
 
   module _ (lengths : rightLengths g ≡ true) (choice : Choice) where
-    on-matched : r choice .stop ≡ End → (x : Stop) → matchedOf (r choice .entries) ≡ x → onMatched g choice (r choice) x ≡ found f → Means g f
+    on-matched : r choice .stop ≡ End → levelsOf (g .asked) (r choice .entries) ≡ End → (x : Stop) → matchedOf (r choice .entries) ≡ x → onMatched g choice (r choice) x ≡ found f → Means g f
     unfolding onMatched
-    on-matched whole (At fault line) p e = never e
-    on-matched whole End p e =
+    on-matched whole levels (At fault line) p e = never e
+    on-matched whole levels End p e =
         let (is, settles) = on-settled choice (r choice) (settle (waitsOf (g .latencies) (r choice .entries))) e in
-        rw is (record { lengths = lengths; reading = refl; whole = whole; matches = p; settles = settles })
+        rw is (record { lengths = lengths; reading = refl; whole = whole; levels = levels; matches = p; settles = settles })
+
+    on-levels : r choice .stop ≡ End → (x : Stop) → levelsOf (g .asked) (r choice .entries) ≡ x → onLevels g choice (r choice) x ≡ found f → Means g f
+    unfolding onLevels
+    on-levels whole (At fault line) p e = never e
+    on-levels whole End p e = on-matched whole p (matchedOf (r choice .entries)) refl e
 
     on-read : (x : Stop) → r choice .stop ≡ x → onRead g choice (r choice) x ≡ found f → Means g f
     unfolding onRead
     on-read (At fault line) p e = never e
-    on-read End p e = on-matched p (matchedOf (r choice .entries)) refl e
+    on-read End p e = on-levels p (levelsOf (g .asked) (r choice .entries)) refl e
 
   on-choice : (h : Option Choice) → onChoice g h ≡ found f → Means g f
   unfolding onChoice

@@ -5,11 +5,13 @@ use mathlib.Core.List.{List}
 use native.Mathlib.Omega.{arith}
 use lib.ListN.{length, take}
 use lib.IntN.{ℤ}
-use Rattle.paper.specs.Answer.{Given, onRead, onMatched, onSettled}
+use Rattle.paper.specs.Answer.{Given, onRead, onLevels, onMatched, onSettled}
 use Rattle.paper.specs.Matching.{entryAt, matchedOf}
 use Rattle.paper.specs.Reading.{Reading, readOf}
+use Rattle.paper.specs.declared.Asked.{Asked}
 use Rattle.paper.specs.declared.Choice.{Choice}
 use Rattle.paper.specs.declared.Fault.{Fault}
+use Rattle.paper.specs.declared.Stop.{Stop}
 use Rattle.paper.specs.declared.Stop.the-variants.{End, At}
 use Rattle.reading.specs.Starts.{startOf}
 use Rattle.reading.proofs.Starts.{start-within}
@@ -25,7 +27,7 @@ use Rattle.reach.specs.declared.Reached.{Reached}
 use Rattle.reach.specs.declared.Reached.the-variants.{Times, Refused, Misfit}
 use Rattle.clearance.specs.Clearance.{givenOf}
 use Rattle.reach.specs.Reach.{reaches}
-use Rattle.reach.specs.Lines.{Sized, asReached, SettledBy, fromLines}
+use Rattle.reach.specs.Lines.{Sized, asReached, SettledBy, levelled, fromLines}
 
 -- a trace that was read into a store
 module _ (choice : Choice) (trace store₀ : List ℕ) (r : Read) (store : List ℕ) (into : ReadInto choice trace store₀ r store) where
@@ -54,12 +56,6 @@ module _ (choice : Choice) (trace store₀ : List ℕ) (r : Read) (store : List 
   pub ready : {sends before latency : List ℕ} {times spare : List ℤ} → Sized (capacity store₀) sends before latency times spare
       → Sized (length sends) sends before latency times spare × ((r .listed ≤ length sends) × (r .listed ≤ capacity store))
   ready z = (rw (z .all-sends) z, (rw (z .all-sends) few, few-stored))
-
-  -- "then line by line, the first bad line deciding"
-  pub line-refused : (fault : Fault) (line : ℕ) → r .stop ≡ At fault line → (latencies sends : List ℕ) (times : List ℤ)
-      → fromLines trace latencies choice whole (Refused fault line) store sends times
-  unfolding fromLines reaches onRead
-  line-refused fault line e latencies sends times asked places = rw (sym stop-is ∙ e)
 
   module _ (short : length trace < 2 ^ 32) where
     entries-are : entriesIn store (r .listed) ≡ whole .entries
@@ -98,10 +94,28 @@ module _ (choice : Choice) (trace store₀ : List ℕ) (r : Read) (store : List 
       solved-reaches Solved.Impossible by = let s = rw entries-are at by in rw (s .0, table, s .1)
       solved-reaches Solved.Misfit by = by
 
-    pub lines-read : r .stop ≡ End → (latencies : List ℕ) {x : Reached} {sends : List ℕ} {times : List ℤ}
-        → SettledBy latencies (entriesIn store (r .listed)) (r .listed) (r .passed) x sends times → fromLines trace latencies choice whole x store sends times
-    unfolding fromLines onRead
-    lines-read e latencies {x} {sends} {times} s asked places =
-        let g = givenOf trace latencies asked places in
-        let onward = ap (onRead g choice whole) (sym stop-is ∙ e) in
-        rw (onward, s .is) (solved-reaches latencies sends times g refl (s .answer) (s .solves))
+    -- "then line by line, the first bad line deciding"; "After the lines are read, and before 13, refuse with 17"
+    module _ (latencies : List ℕ) (asked : Asked) {stop : Stop} (levels : stop ≡ levelled asked (entriesIn store (r .listed)) (r .stop)) where
+      onward : (places : ℕ)
+          → let g = givenOf trace latencies asked places in onRead g choice whole (whole .stop) ≡ onLevels g choice whole stop
+      unfolding onRead onLevels levelled
+      onward places =
+          let g = givenOf trace latencies asked places in
+          ap (onRead g choice whole) (sym stop-is) ∙ go (r .stop) ∙ ap (onLevels g choice whole) (sym (rw entries-are at levels))
+        where
+          go : (s : Stop) → let g = givenOf trace latencies asked places in onRead g choice whole s ≡ onLevels g choice whole (levelled asked (whole .entries) s)
+          go (At fault line) = refl
+          go End = refl
+
+      pub line-refused : (fault : Fault) (line : ℕ) → stop ≡ At fault line → (sends : List ℕ) (times : List ℤ)
+          → fromLines trace latencies asked choice whole (Refused fault line) store sends times
+      unfolding fromLines reaches onLevels
+      line-refused fault line e sends times places = onward places ∙ rw e
+
+      pub lines-read : stop ≡ End → {x : Reached} {sends : List ℕ} {times : List ℤ}
+          → SettledBy latencies (entriesIn store (r .listed)) (r .listed) (r .passed) x sends times
+          → fromLines trace latencies asked choice whole x store sends times
+      unfolding fromLines onLevels
+      lines-read e {x} {sends} {times} s places =
+          let g = givenOf trace latencies asked places in
+          rw (onward places, e, s .is) (solved-reaches latencies sends times g refl (s .answer) (s .solves))

@@ -1,16 +1,19 @@
--- What the functions behind 1 to 4 have in hand, and what they come to. What the caller named, and how many times are lent, is no
--- longer asked.
+-- What the functions behind 1 to 4 have in hand, and what they come to. Of what the caller named only the levels are still asked, and how
+-- many times are lent is not.
 use Prim.Native.Nat.{ℕ, _<_}
 use mathlib.Core.Path.{_≡_}
 use mathlib.Core.List.{List}
 use lib.ListN.{length, take}
 use lib.IntN.{ℤ}
 use Rattle.paper.specs.Answer.{onRead}
+use Rattle.paper.specs.Levels.{levelsOf}
 use Rattle.paper.specs.Reading.{Reading}
 use Rattle.paper.specs.declared.Asked.{Asked}
 use Rattle.paper.specs.declared.Choice.{Choice}
 use Rattle.paper.specs.declared.Entry.{Entry}
 use Rattle.paper.specs.declared.Fault.the-variants as Fault
+use Rattle.paper.specs.declared.Stop.{Stop}
+use Rattle.paper.specs.declared.Stop.the-variants.{End, At}
 use Rattle.store.specs.Layout.{tooMany}
 use Rattle.solve.specs.declared.Solved.{Solved}
 use Rattle.solve.specs.declared.Solved.the-variants as Solved
@@ -46,7 +49,12 @@ pub record SettledBy (latencies : List ℕ) (es : List Entry) (listed passed : �
 
 -- ---- from the lines on
 
-unfoldable pub fromLines : (trace latencies : List ℕ) → Choice → Reading → Reached → (store sends : List ℕ) → List ℤ → Type 0
-fromLines trace latencies choice r answer store sends times =
-    (asked : Asked) (places : ℕ)
+-- where the lines stop, or else 17
+unfoldable pub levelled : Asked → List Entry → Stop → Stop
+levelled asked es (At fault line) = At fault line
+levelled asked es End = levelsOf asked es
+
+unfoldable pub fromLines : (trace latencies : List ℕ) → Asked → Choice → Reading → Reached → (store sends : List ℕ) → List ℤ → Type 0
+fromLines trace latencies asked choice r answer store sends times =
+    (places : ℕ)
     → reaches trace (onRead (givenOf trace latencies asked places) choice r (r .stop)) answer store sends times

@@ -1,13 +1,14 @@
-// "then line by line, the first bad line deciding; then the first receive in file order that calls for 13 or 14 ..; then 15".
+// "then line by line, the first bad line deciding", then 17, "then the first receive in file order that calls for 13 or 14 ..; then 15".
 ghost use Prim.Native.Nat.{_≤_};
 ghost use mathlib.Core.Path.{_≡_};
 ghost use lib.ListN.{length};
 ghost use Rattle.paper.specs.Answer.{longest};
 ghost use Rattle.paper.specs.Reading.{readOf};
 ghost use Rattle.store.specs.Layout.{capacity, entriesIn};
-ghost use Rattle.reach.specs.Lines.{Sized, asReached, SettledBy, fromLines};
+ghost use Rattle.reach.specs.Lines.{Sized, asReached, SettledBy, levelled, fromLines};
 use crate::Reached;
 use answer::Counts;
+use paper::Asked;
 use paper::Choice;
 use paper::Fault;
 use paper::Stop;
@@ -60,9 +61,20 @@ fn settle(
     told(listed, passed, solved)
 }
 
+// "After the lines are read, and before 13, refuse with 17": behind the lines, where none of them is refused.
+fn check_levels(read: Stop, asked: Asked, store: &[u32], listed: usize) -> Stop
+    ensures { λ r. ⌜ r ≡ levelled asked (entriesIn (now (store .entry)) listed) read ⌝ }
+{
+    match read {
+        Stop::At(fault, line) => Stop::At(fault, line),
+        Stop::End => levels::check(store, listed, asked),
+    }
+}
+
 // The lines into the store, and the times of the records there.
 pub(crate) fn read(
     choice: Choice,
+    asked: Asked,
     trace: &[u8],
     latencies: &[u32],
     store: &mut [u32],
@@ -74,11 +86,11 @@ pub(crate) fn read(
 ) -> Reached
     requires { ⌜ length (now trace) ≤ longest ⌝ }
     requires { ⌜ Sized (capacity (now store)) (now sends) (now before) (now latency) (now times) (now spare) ⌝ }
-    ensures { λ r. ⌜ fromLines (now (trace .entry)) (now (latencies .entry)) choice (readOf choice (capacity (now (store .entry))) (now (trace .entry))) r (now (store .exit)) (now (sends .exit)) (now (times .exit)) ⌝ }
+    ensures { λ r. ⌜ fromLines (now (trace .entry)) (now (latencies .entry)) asked choice (readOf choice (capacity (now (store .entry))) (now (trace .entry))) r (now (store .exit)) (now (sends .exit)) (now (times .exit)) ⌝ }
 {
     let read = trace::read_trace(choice, trace, store);
     let stop = read.stop;
-    match stop {
+    match check_levels(stop, asked, store, read.listed) {
         Stop::At(fault, line) => Reached::Refused(fault, line),
         Stop::End => settle(
             latencies,

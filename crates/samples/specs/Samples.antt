@@ -1,5 +1,5 @@
 -- Document 01, "Sample traces": those marked P, each a call from the trace's bytes with its whole outcome and the program's whole
--- report of it.
+-- report of it; and in the same way what the first change request and its reading say of the tracing levels.
 use Prim.Native.Nat.{ℕ, _+_, _*_}
 use Prim.Native.String.{String}
 use mathlib.Core.Path.{_≡_}
@@ -9,6 +9,7 @@ use lib.ListN.{length, take, drop, set, replicate}
 use lib.IntN.{ℤ, pos, negsuc}
 use Rattle.paper.specs.Answer.{Inputs, Outcome, judge}
 use Rattle.paper.specs.Text.{bytesOf}
+use Rattle.paper.specs.declared.Asked.{Asked}
 use Rattle.report.specs.Report.{reportOf}
 
 -- ---- the traces
@@ -30,6 +31,20 @@ traceB =
     ∷ "-3 -21 0.000004 1 0 3 2 8 1 0\n"
     ∷ []
 
+-- marks of processor 0 that tell the levels 1 1 1, and other ones
+abbrev goodMark : String
+goodMark = "-2 -904 0.000000 0 0 3 2 1 1 1\n"
+
+abbrev badMark : String
+badMark = "-2 -904 0.000000 0 0 3 2 1 1 2\n"
+
+-- records that are no marks, of processors 0 and 1
+abbrev entry0 : String
+entry0 = "-3 5 0.000000 0 0 0\n"
+
+abbrev entry1 : String
+entry1 = "-3 5 0.000000 1 0 0\n"
+
 abbrev joined : List String → List ℕ
 joined [] = []
 joined (l ∷ ls) = bytesOf l ++ joined ls
@@ -41,9 +56,18 @@ everywhere latency = replicate 4096 latency
 abbrev lent : List ℤ
 lent = replicate 2048 (pos 7)
 
+abbrev calling : List ℕ → List ℕ → Asked → Inputs
+calling trace latencies asked = record { trace = trace; latencies = latencies; asked = asked; times = lent; wanted = false; room = [] }
+
+-- "0 for off, as for document 01's samples"
 abbrev given : List ℕ → List ℕ → ℕ → Inputs
 given trace latencies choice =
-    record { trace = trace; latencies = latencies; asked = record { choice = choice }; times = lent; wanted = false; room = [] }
+    calling trace latencies (record { choice = choice; levels = 0; picl = pos 0; user = pos 0; trace = pos 0 })
+
+-- a call that expects 1 1 1, with this for its fourth number
+abbrev expecting : ℕ → List String → Inputs
+expecting levels trace =
+    calling (joined trace) (everywhere 0) (record { choice = 1; levels = levels; picl = pos 1; user = pos 1; trace = pos 1 })
 
 -- ---- the outcomes
 
@@ -153,6 +177,56 @@ samples =
     }
     -- P10: "choice 3 is 1"
     ∷ record { call = given (joined traceA) (everywhere 5) 3; comes = refusal 1 0; shows = "refused 1 line 0\n" ∷ [] }
+    -- request 1: "Only a -904 mark with three data under descriptor 2 counts": one with "the expected three"
+    ∷ record {
+      call = expecting 1 (goodMark ∷ []);
+      comes = answer 3 0 0 (pos 0 ∷ []);
+      shows = report "verdict nothing to judge\n" "listed 1\n" "matched 0\n" "rounds 0\n";
+    }
+    -- "refuse with 17 if a processor with listed records has no such mark"
+    ∷ record { call = expecting 1 (entry0 ∷ []); comes = refusal 17 1; shows = "refused 17 line 1\n" ∷ [] }
+    -- "or its last one differs from the expected three"
+    ∷ record { call = expecting 1 (goodMark ∷ badMark ∷ []); comes = refusal 17 2; shows = "refused 17 line 2\n" ∷ [] }
+    -- ""its last one" is the processor's last mark that counts": one without data behind it is as if it were not there
+    ∷ record {
+      call = expecting 1 (goodMark ∷ "-2 -904 0.000000 0 0 0\n" ∷ []);
+      comes = answer 3 0 0 (pos 0 ∷ pos 0 ∷ []);
+      shows = report "verdict nothing to judge\n" "listed 2\n" "matched 0\n" "rounds 0\n";
+    }
+    -- "The smallest such processor decides; the line is that of its last listed record."
+    ∷ record {
+      call = expecting 1 (goodMark ∷ badMark ∷ entry0 ∷ entry1 ∷ []);
+      comes = refusal 17 3;
+      shows = "refused 17 line 3\n" ∷ [];
+    }
+    -- "Entry, exit and user-data records of -904 do not count."
+    ∷ record {
+      call = expecting 1 ("-3 -904 0.000000 0 0 3 2 1 1 1\n" ∷ []);
+      comes = refusal 17 1;
+      shows = "refused 17 line 1\n" ∷ [];
+    }
+    -- "17 comes before an earlier-standing 13": a receive at line 1 that has no send
+    ∷ record {
+      call = expecting 1 (take 1 (drop 2 traceA) ++ (entry0 ∷ []));
+      comes = refusal 17 2;
+      shows = "refused 17 line 2\n" ∷ [];
+    }
+    -- "and after every bad line": here an empty one
+    ∷ record { call = expecting 1 (entry0 ∷ "\n" ∷ []); comes = refusal 5 2; shows = "refused 5 line 2\n" ∷ [] }
+    -- "An empty trace has no processor with listed records: accepted."
+    ∷ record {
+      call = expecting 1 [];
+      comes = answer 3 0 0 [];
+      shows = report "verdict nothing to judge\n" "listed 0\n" "matched 0\n" "rounds 0\n";
+    }
+    -- "0 for off": the same three, and no mark
+    ∷ record {
+      call = expecting 0 (entry0 ∷ []);
+      comes = answer 3 0 0 (pos 0 ∷ []);
+      shows = report "verdict nothing to judge\n" "listed 1\n" "matched 0\n" "rounds 0\n";
+    }
+    -- "0 for off .. or 1 for on; any other is refusal 1"
+    ∷ record { call = expecting 2 (goodMark ∷ []); comes = refusal 1 0; shows = "refused 1 line 0\n" ∷ [] }
     ∷ []
 
 -- each comes to what it should, and is reported so

@@ -1,4 +1,2 @@
--- The laws of what is said, and what the program leans on in the judgement.
-pub mod Room
-pub mod Lent
+-- The laws of what is said.
 pub mod Program

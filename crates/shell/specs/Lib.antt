@@ -1,3 +1,2 @@
 -- What the program says.
 pub mod Program
-pub mod Judged

@@ -1,88 +1,28 @@
--- Document 01, "What the base covers": what the program says, in its order. The system tells three things, which are given here: either
--- file as it could be read, and whether the file for the written trace could be written.
+-- What the program `cantuvesh` says, by its arguments and by what the system tells of its files.
 use Prim.Native.Nat.{ℕ}
-use mathlib.Core.Path.{_≡_}
-use mathlib.Core.Bool.{Bool, true, false, cond, _&&_}
+use mathlib.Core.Bool.{Bool}
 use mathlib.Core.List.{List}
-use mathlib.Core.Option.{Option, none, some}
-use lib.ListN.{length, replicate}
-use lib.IntN.{ℤ, pos}
-use lib.Dec.{eqb}
-use Rattle.paper.specs.Answer.{judge}
-use Rattle.paper.specs.declared.Answer.{Answer}
+use mathlib.Core.Option.{Option}
+use lib.IntN.{pos}
+use Rattle.paper.specs.declared.Asked.{Asked}
 use Rattle.paper.specs.declared.Fault.the-variants as Fault
 use Rattle.answer.specs.Answers.{refusal}
-use Rattle.table.specs.Table.{latenciesOf}
 use Rattle.report.specs.declared.Said.{Said}
 use Rattle.report.specs.declared.Said.the-variants as Said
 use Rattle.arguments.specs.declared.Plan.{Plan}
 use Rattle.arguments.specs.declared.Plan.the-variants.{BadChoice, TooMany, Unnamed, Judge}
 use Rattle.arguments.specs.Arguments.{planOf}
+use Rattle.filed.specs.Filed.{onFiles}
 
--- ---- the end
-
--- only an accepted trace that is wanted goes to its file
-unfoldable pub storing : Bool → Answer → Bool
-storing wanted answer = wanted && eqb (answer .number) 0
-
--- the report, or that what was to be stored could not be
-unfoldable pub endOf : (storing : Bool) → Answer → (stored : Bool) → Said
-endOf false answer stored = Said.Answered answer
-endOf true answer true = Said.Answered answer
-endOf true answer false = Said.CannotWrite
-
--- ---- the judgement
-
--- "The lent times are exactly 2,048 signed 64-bit places."
-unfoldable pub lentTimes : List ℤ
-lentTimes = replicate 2048 (pos 0)
-
--- "with room for 65,536 bytes"
-unfoldable pub lentRoom : List ℕ
-lentRoom = replicate 65536 0
-
-unfoldable pub answerOf : (choice : ℕ) (wanted : Bool) (trace latencies : List ℕ) → Answer
-answerOf choice wanted trace latencies =
-    judge (record { trace = trace; latencies = latencies; asked = record { choice = choice }; times = lentTimes; wanted = wanted; room = lentRoom }) .answer
-
-unfoldable pub onLatencies : (choice : ℕ) (wanted : Bool) (trace latencies : List ℕ) (stored : Bool) → Said
-onLatencies choice wanted trace latencies stored =
-    let answer = answerOf choice wanted trace latencies in endOf (storing wanted answer) answer stored
-
--- ---- the files
-
--- "The table file is 16,384 bytes, .. any other length being refusal 2."
-unfoldable pub onTable : (choice : ℕ) (wanted : Bool) (trace table : List ℕ) (stored : Bool) → Said
-onTable choice wanted trace table stored =
-    let judged = onLatencies choice wanted trace (latenciesOf table) stored in
-    cond (eqb (length table) 16384) judged (Said.Answered (refusal Fault.WrongLength 0))
-
--- "a file that can't be read .. gives the single line "cannot read"": either file, before all else that is asked of them
-unfoldable pub onFiles : (choice : ℕ) (wanted : Bool) (trace table : Option (List ℕ)) (stored : Bool) → Said
-onFiles choice wanted none table stored = Said.CannotRead
-onFiles choice wanted (some trace) none stored = Said.CannotRead
-onFiles choice wanted (some trace) (some table) stored = onTable choice wanted trace table stored
-
--- ---- the program
+-- this program asks for no levels: "0 for off, as for document 01's samples"
+unfoldable pub levelsOff : ℕ → Asked
+levelsOff choice = record { choice = choice; levels = 0; picl = pos 0; user = pos 0; trace = pos 0 }
 
 unfoldable pub onPlan : Plan → (trace table : Option (List ℕ)) (stored : Bool) → Said
 onPlan BadChoice trace table stored = Said.Answered (refusal Fault.BadChoice 0)
 onPlan TooMany trace table stored = Said.TooMany
 onPlan Unnamed trace table stored = Said.CannotRead
-onPlan (Judge choice wanted) trace table stored = onFiles choice wanted trace table stored
+onPlan (Judge choice wanted) trace table stored = onFiles (levelsOff choice) wanted trace table stored
 
 unfoldable pub saidOf : (count : ℕ) (first : List ℕ) (trace table : Option (List ℕ)) (stored : Bool) → Said
 saidOf count first trace table stored = onPlan (planOf count first) trace table stored
-
--- ---- what the functions that ask the system leave: what is said, by what they were told
-
--- by whether the file for the written trace could be written
-pub record ByStored (by : Bool → Said) (said : Said) : Type 0 where
-  pub stored : Bool
-  pub says : said ≡ by stored
-
--- by what the files held, and that
-pub record ByFiles (by : Option (List ℕ) → Option (List ℕ) → Bool → Said) (said : Said) : Type 0 where
-  pub trace : Option (List ℕ)
-  pub table : Option (List ℕ)
-  pub rest : ByStored (by trace table) said

@@ -70,6 +70,12 @@ module _ (l : List ℕ) (i : ℕ) where
   pub time-is : {p q : ℕ} {t : ℤ} → p ≡ partAt l i 0 → q ≡ partAt l i 1 → t ≡ decoded (p + 2 ^ 32 * q) → t ≡ entryFrom l i .body .time
   time-is e f g = rw (by-parts, ← e, ← f, g)
 
+  pub kind-is : {z : ℤ} → z ≡ decoded (partAt l i 5) → z ≡ entryFrom l i .body .kind
+  kind-is e = rw (by-parts, e)
+
+  pub event-is : {z : ℤ} → z ≡ decoded (partAt l i 6) → z ≡ entryFrom l i .body .event
+  event-is e = rw (by-parts, e)
+
   pub processor-is : {p : ℕ} → p ≡ partAt l i 4 → On (entryFrom l i) (p % 64)
   processor-is {p} e = record { is = rw (by-parts, e); low = omega arith }
 
@@ -105,10 +111,10 @@ module _ (l : List ℕ) (i : ℕ) where
     others t u = rw (by-parts, ← mixed, ne-eqb _ 1 t, ne-eqb _ 2 u)
 
   pub entry-is : {t : ℤ} {line processor : ℕ} {kind event : ℤ} {values : Data} {role : Role} → line ≡ entryFrom l i .line
-      → t ≡ entryFrom l i .body .time → On (entryFrom l i) processor → kind ≡ decoded (partAt l i 5) → event ≡ decoded (partAt l i 6)
+      → t ≡ entryFrom l i .body .time → On (entryFrom l i) processor → kind ≡ entryFrom l i .body .kind → event ≡ entryFrom l i .body .event
       → values ≡ entryFrom l i .body .values
       → role ≡ entryFrom l i .body .role
       → _≡_ {A = Entry}
       (record { line = line; body = record { time = t; processor = processor; kind = kind; event = event; values = values; role = role } })
       (entryFrom l i)
-  entry-is le te on ke ee ve re = rw (le, te, on .is, ke, ee, ve, re, by-parts)
+  entry-is le te on ke ee ve re = rw (le, te, on .is, ke, ee, ve, re)

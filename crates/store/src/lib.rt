@@ -78,7 +78,19 @@ pub fn role_at(store: &[u32], i: usize) -> Role
     Role::Neither
 }
 
-fn values_at(store: &[u32], i: usize) -> Data
+pub fn kind_at(store: &[u32], i: usize) -> i64
+    ensures { λ r. ⌜ r ≡ entryFrom (now (store .entry)) i .body .kind ⌝ }
+{
+    parts::whole(store, i, 5)
+}
+
+pub fn event_at(store: &[u32], i: usize) -> i64
+    ensures { λ r. ⌜ r ≡ entryFrom (now (store .entry)) i .body .event ⌝ }
+{
+    parts::whole(store, i, 6)
+}
+
+pub fn values_at(store: &[u32], i: usize) -> Data
     ensures { λ r. ⌜ r ≡ entryFrom (now (store .entry)) i .body .values ⌝ }
 {
     let mixed = parts::part(store, i, 4);
@@ -116,8 +128,8 @@ pub fn entry_at(store: &[u32], i: usize) -> Entry
     let line = line_at(store, i);
     let time = time_at(store, i);
     let processor = processor_at(store, i);
-    let kind = parts::whole(store, i, 5);
-    let event = parts::whole(store, i, 6);
+    let kind = kind_at(store, i);
+    let event = event_at(store, i);
     let values = values_at(store, i);
     let role = role_at(store, i);
     Entry {

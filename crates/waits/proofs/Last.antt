@@ -1,29 +1,22 @@
--- The last place of each processor so far.
+-- The last place of each processor so far, where the entries are those of a store.
 use Prim.Native.Nat.{ℕ, _+_, _<_}
-use native.Mathlib.Omega.{arith}
-use native.Mathlib.Numerals.{add-one}
-use mathlib.Core.Path.{_≡_, refl, sym, _∙_}
-use mathlib.Core.Bool.{Bool, true, false, cond}
-use mathlib.Core.Option.{some, Option·getD}
+use mathlib.Core.Path.{_≡_, sym}
 use mathlib.Core.List.{List}
-use lib.ListN.{length, getD, set, replicate, length-set, length-replicate, getD-replicate}
-use lib.Seq.{getD-set-same, getD-set-other}
-use lib.Dec.{eqb}
-use borrow.Author.Tests.{eqb-true, eqb-false}
-use Rattle.paper.specs.Matching.{entryAt, lastOn}
+use lib.ListN.{length, getD, set, replicate}
+use borrow.Author.Tests.{eq-eqb, ne-eqb}
+use Rattle.paper.specs.Matching.{entryAt, isOn}
 use Rattle.paper.specs.declared.Entry.{Entry}
+use Rattle.matching.proofs.EachLast.{EachLast, each-none, each-more}
 use Rattle.store.specs.Layout.{entryFrom, entriesIn, On}
 use Rattle.store.proofs.Laws.{length-entries, entry-in}
 use Rattle.waits.specs.Tables.{beforeAt}
 
 -- of each processor the place of the last of the first i entries that is on it
-pub record Lasts (es : List Entry) (i : ℕ) (last : List ℕ) : Type 0 where
-  pub size : length last ≡ 64
-  pub each : (p : ℕ) → p < 64 → getD last p 0 ≡ Option·getD (lastOn es p i) (length es)
+abbrev pub Lasts : List Entry → ℕ → List ℕ → Type 0
+Lasts es i last = EachLast isOn (length es) es i last
 
 pub last-none : (l : List ℕ) (n : ℕ) → Lasts (entriesIn l n) 0 (replicate 64 n)
-unfolding lastOn
-last-none l n = record { size = length-replicate 64 n; each = λ p p<. getD-replicate 64 p n 0 p< ∙ sym (length-entries l n) }
+last-none l n = rw (length-entries l n) (each-none isOn n (entriesIn l n))
 
 module _ (l : List ℕ) (n : ℕ) {i : ℕ} {last : List ℕ} (h : Lasts (entriesIn l n) i last) (i< : i < n) {p : ℕ} (on : On (entryFrom l i) p) where
   abbrev es : List Entry
@@ -38,9 +31,6 @@ module _ (l : List ℕ) (n : ℕ) {i : ℕ} {last : List ℕ} (h : Lasts (entrie
 
   -- entry i is then the last on its processor, and no other processor is touched
   pub last-more : Lasts es (i + 1) (set last p i)
-  unfolding lastOn
-  last-more = record { size = simp length-set (h .size); each = λ q q<. rw (add-one i, ← here) (go q q< (eqb p q) refl) }
-    where
-      go : (q : ℕ) → q < 64 → (t : Bool) → eqb p q ≡ t → getD (set last p i) q 0 ≡ Option·getD (cond t (some i) (lastOn es q i)) (length es)
-      go q q< true e = let z : p ≡ q = eqb-true p q e in rw (← z) (getD-set-same last p i 0 (omega (arith, h .size, on .low)))
-      go q q< false e = getD-set-other last p q i 0 (λ z. eqb-false p q e (sym z)) ∙ h .each q q<
+  last-more =
+      each-more isOn (length es) es (λ q e z. ne-eqb (e .body .processor) q (λ w. z (sym w))) h here (on .low) i
+      (rw (eq-eqb (entryAt es i .body .processor) p (sym here)))

@@ -1,6 +1,6 @@
 -- `answer::number` meets its contract.
 use borrow.Author.Needs.{needs}
-use mathlib.Core.Path.{_≡_, refl, sym, ap, _∙_}
+use mathlib.Core.Path.{sym, ap}
 use Rattle.paper.specs.Numbers.{numberOf}
 use Rattle.answer.proofs.number.Statement.{statement}
 use Rattle.answer.proofs.number.Tie as tie
@@ -52,6 +52,9 @@ enum-told-15 c = search needs
 
 enum-told-16 : tie.Need-enum-told-16
 enum-told-16 c = search needs
+
+enum-told-17 : tie.Need-enum-told-17
+enum-told-17 c = search needs
 
 returns : tie.Need-returns
 unfolding numberOf
@@ -117,6 +120,10 @@ returns-16 : tie.Need-returns-16
 unfolding numberOf
 returns-16 c = ap numberOf (sym (c .enum-told16 .given .1))
 
+returns-17 : tie.Need-returns-17
+unfolding numberOf
+returns-17 c = ap numberOf (sym (c .enum-told17 .given .1))
+
 pub number-spec : {M : Type 1} → statement M
 number-spec =
     tie.close
@@ -137,6 +144,7 @@ number-spec =
     enum-told-14
     enum-told-15
     enum-told-16
+    enum-told-17
     returns
     returns-2
     returns-3
@@ -152,4 +160,5 @@ number-spec =
     returns-13
     returns-14
     returns-15
-    returns-16)
+    returns-16
+    returns-17)

@@ -22,8 +22,11 @@ enum-told-3 c = search needs
 enum-known-choice : tie.Need-enum-known-choice
 enum-known-choice c = search needs
 
-read-both-requires : tie.Need-read-both-requires
-read-both-requires c κs = search needs
+levels-off-requires : tie.Need-levels-off-requires
+levels-off-requires c κs = search needs
+
+judge-files-requires : tie.Need-judge-files-requires
+judge-files-requires c κs = search needs
 
 returns : tie.Need-returns
 returns c = refuses _ _ (c .before .before .before .planned .ensures) (c .before .enum-told .given .1) (c .refused .ensures)
@@ -35,7 +38,9 @@ returns-3 : tie.Need-returns-3
 returns-3 c = says-unnamed _ _ (c .before .before .planned .ensures) (c .enum-told3 .given .1)
 
 returns-4 : tie.Need-returns-4
-returns-4 c = judges _ _ (c .before .before .before .before .planned .ensures) (c .before .before .choice .given .1) (c .read-both .ensures)
+returns-4 c =
+    let c₃ = c .before .before .before in
+    judges _ _ (c₃ .before .before .planned .ensures) (c₃ .choice .given .1) (c .before .levels-off .ensures) (c .judge-files .ensures)
 
 pub performed-spec : {M : Type 1} → statement M
 performed-spec =
@@ -47,7 +52,8 @@ performed-spec =
     enum-told-2
     enum-told-3
     enum-known-choice
-    read-both-requires
+    levels-off-requires
+    judge-files-requires
     returns
     returns-2
     returns-3

@@ -1,6 +1,5 @@
 -- `store::entry_at` meets its contract, from those of the readers of its parts.
 use borrow.Author.Needs.{needs}
-use Rattle.store.specs.Layout.{width}
 use Rattle.store.proofs.Places.{through, entry-is}
 use Rattle.store.proofs.entry_at.Statement.{statement}
 use Rattle.store.proofs.entry_at.Tie as tie
@@ -14,13 +13,11 @@ time-at-requires c κs = search needs
 processor-at-requires : tie.Need-processor-at-requires
 processor-at-requires c κs = search needs
 
-whole-requires : tie.Need-whole-requires
-unfolding width
-whole-requires c κs = search needs
+kind-at-requires : tie.Need-kind-at-requires
+kind-at-requires c κs = search needs
 
-whole-requires-2 : tie.Need-whole-requires-2
-unfolding width
-whole-requires-2 c κs = search needs
+event-at-requires : tie.Need-event-at-requires
+event-at-requires c κs = search needs
 
 values-at-requires : tie.Need-values-at-requires
 values-at-requires c κs = search needs
@@ -34,8 +31,8 @@ returns c =
     entry-is _ _ (c₃ .before .before .before .line-at .ensures)
     (through (c₃ .before .before .time-at .ensures) (search needs))
     (c₃ .before .processor-at .ensures)
-    (through (c₃ .whole .ensures) (search needs))
-    (through (c .before .before .whole2 .ensures) (search needs))
+    (through (c₃ .kind-at .ensures) (search needs))
+    (through (c .before .before .event-at .ensures) (search needs))
     (c .before .values-at .ensures)
     (c .role-at .ensures)
 
@@ -46,8 +43,8 @@ entry-at-spec =
     line-at-requires
     time-at-requires
     processor-at-requires
-    whole-requires
-    whole-requires-2
+    kind-at-requires
+    event-at-requires
     values-at-requires
     role-at-requires
     returns)

@@ -9,22 +9,30 @@ use Rattle.reach.proofs.lines.read.Tie as tie
 read-trace-requires : tie.Need-read-trace-requires
 read-trace-requires c κs = search needs
 
-enum-known-stop : tie.Need-enum-known-stop
-enum-known-stop c = search needs
+check-levels-requires : tie.Need-check-levels-requires
+check-levels-requires c κs = search needs
+
+enum-known-fault : tie.Need-enum-known-fault
+enum-known-fault c = search needs
 
 enum-told : tie.Need-enum-told
 enum-told c = search needs
 
 settle-requires : tie.Need-settle-requires
 settle-requires c κs =
-    let c₁₀ = c .before .before .before .before .before .before .before .before .before .before in
-    ready _ _ _ _ _ (c₁₀ .read-trace .ensures) (c₁₀ .before .before .before .before .before .before .before .before .pre .1)
+    let c₁₂ = c .before .before .before .before .before .before .before .before .before .before .before .before in
+    ready _ _ _ _ _ (c₁₂ .read-trace .ensures) (c₁₂ .before .before .before .before .before .before .before .before .pre .1)
 
 same-length : tie.Need-same-length
 same-length c = search needs
 
 returns : tie.Need-returns
-returns c = line-refused _ _ _ _ _ (c .before .before .before .before .before .read-trace .ensures) _ _ (c .before .stop .given .1) _ _ _
+unfolding longest
+returns c =
+    let c₃ = c .before .before .before in
+    let c₇ = c₃ .before .before .before .before in
+    let short = c₇ .before .before .before .before .before .before .before .before .pre .0 in
+    line-refused _ _ _ _ _ (c₇ .read-trace .ensures) (omega (arith, short)) _ _ (c₃ .check-levels .ensures) _ _ (c .before .fault .given .1) _ _
 
 same-length-2 : tie.Need-same-length-2
 same-length-2 c = search needs
@@ -48,16 +56,18 @@ returns-2 : tie.Need-returns-2
 unfolding longest
 returns-2 c =
     let c₁₅ = c .before .before .before .before .before .before .before .before .before .before .before .before .before .before .before in
-    let c₁₉ = c₁₅ .before .before .before .before in
-    let short = c₁₉ .before .before .before .before .before .before .before .before .pre .0 in
-    lines-read _ _ _ _ _ (c₁₉ .read-trace .ensures) (omega (arith, short)) (c₁₅ .enum-told .given .1) _ (c .before .before .before .before .before .before .before .before .settle .ensures)
+    let c₁₇ = c₁₅ .before .before in
+    let c₂₁ = c₁₇ .before .before .before .before in
+    let short = c₂₁ .before .before .before .before .before .before .before .before .pre .0 in
+    lines-read _ _ _ _ _ (c₂₁ .read-trace .ensures) (omega (arith, short)) _ _ (c₁₇ .check-levels .ensures) (c₁₅ .enum-told .given .1) (c .before .before .before .before .before .before .before .before .settle .ensures)
 
 pub read-spec : {M : Type 1} → statement M
 read-spec =
     tie.close
     (tie.spec
     read-trace-requires
-    enum-known-stop
+    check-levels-requires
+    enum-known-fault
     enum-told
     settle-requires
     same-length

@@ -1,0 +1,16 @@
+-- `filed::judged::ended` meets its contract.
+use Rattle.filed.proofs.Filed.{nothing-to-store, is-stored, not-stored}
+use Rattle.filed.proofs.judged.ended.Statement.{statement}
+use Rattle.filed.proofs.judged.ended.Tie as tie
+
+returns : tie.Need-returns
+returns c = nothing-to-store _ _ _ (c .if1 .taken)
+
+returns-2 : tie.Need-returns-2
+returns-2 c = is-stored _ _ _ (c .before .if1 .left) (c .if2 .taken)
+
+returns-3 : tie.Need-returns-3
+returns-3 c = not-stored _ _ _ (c .before .if1 .left) (c .if2 .left)
+
+pub ended-spec : {M : Type 1} → statement M
+ended-spec = tie.close (tie.spec returns returns-2 returns-3)

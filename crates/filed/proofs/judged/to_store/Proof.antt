@@ -1,0 +1,13 @@
+-- `filed::judged::to_store` meets its contract.
+use Rattle.filed.proofs.Filed.{unwanted, wanted-is}
+use Rattle.filed.proofs.judged.to_store.Statement.{statement}
+use Rattle.filed.proofs.judged.to_store.Tie as tie
+
+returns : tie.Need-returns
+returns c = unwanted _ _ (c .if1 .taken)
+
+returns-2 : tie.Need-returns-2
+returns-2 c = wanted-is _ _ (c .before .if1 .left)
+
+pub to-store-spec : {M : Type 1} → statement M
+to-store-spec = tie.close (tie.spec returns returns-2)

@@ -1,0 +1,3 @@
+-- What is said of two files.
+pub mod Filed
+pub mod Judged

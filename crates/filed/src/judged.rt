@@ -1,0 +1,101 @@
+// From the bytes of both files to what is said of them: "cannot read", refusal 2, the judgement, and the file for the written trace.
+ghost use mathlib.Core.Path.{_≡_};
+ghost use lib.ListN.{length};
+ghost use Rattle.files.specs.File.{fileOf};
+ghost use Rattle.filed.specs.Filed.{storing, endOf, onLatencies, onFiles, ByStored};
+ghost use Rattle.filed.specs.Judged.{JudgedInto};
+use paper::Answer;
+use paper::Asked;
+use paper::Fault;
+use report::Said;
+
+fn blanks() -> [i64; 2048]
+    ensures { λ r. ⌜ length r ≡ 2048 ⌝ }
+{
+    [0; 2048]
+}
+
+fn no_latencies() -> [u32; 4096]
+    ensures { λ r. ⌜ length r ≡ 4096 ⌝ }
+{
+    [0; 4096]
+}
+
+fn judge_into(
+    asked: Asked,
+    wanted: bool,
+    trace: &[u8],
+    latencies: &[u32],
+    room: &mut [u8; 65536],
+) -> Answer
+    ensures { λ r. ⌜ JudgedInto asked wanted (now (trace .entry)) (now (latencies .entry)) r (now (room .exit)) ⌝ }
+{
+    let mut times = blanks();
+    judge::judge(trace, latencies, asked, &mut times, wanted, room)
+}
+
+// Only an accepted trace that is wanted goes to its file.
+fn to_store(wanted: bool, answer: Answer) -> bool
+    ensures { λ r. ⌜ r ≡ storing wanted answer ⌝ }
+{
+    if !wanted {
+        return false;
+    }
+    answer.number == 0
+}
+
+// Where there is nothing to store, the file is not touched.
+fn store_asked(storing: bool, out: &[u8], text: &[u8]) -> bool {
+    if !storing {
+        return true;
+    }
+    files::store(out, text)
+}
+
+fn ended(storing: bool, answer: Answer, stored: bool) -> Said
+    ensures { λ r. ⌜ r ≡ endOf storing answer stored ⌝ }
+{
+    if !storing {
+        return Said::Answered(answer);
+    }
+    if stored {
+        return Said::Answered(answer);
+    }
+    Said::CannotWrite
+}
+
+fn concluded(asked: Asked, wanted: bool, trace: &[u8], latencies: &[u32], out: &[u8]) -> Said
+    ensures { λ r. ⌜ ByStored (onLatencies asked wanted (now (trace .entry)) (now (latencies .entry))) r ⌝ }
+{
+    let mut room = io::large_buffer();
+    let answer = judge_into(asked, wanted, trace, latencies, &mut room);
+    let n = answer.written as usize;
+    let storing = to_store(wanted, answer);
+    let stored = store_asked(storing, out, &room[..n]);
+    ended(storing, answer, stored)
+}
+
+// "The table file is 16,384 bytes, four for each latency, low byte first, any other length being refusal 2."
+pub(crate) fn judged(
+    asked: Asked,
+    wanted: bool,
+    read: bool,
+    trace: &[u8],
+    got: bool,
+    table: &[u8],
+    out: &[u8],
+) -> Said
+    ensures { λ r. ⌜ ByStored (onFiles asked wanted (fileOf read (now (trace .entry))) (fileOf got (now (table .entry)))) r ⌝ }
+{
+    if !read {
+        return Said::CannotRead;
+    }
+    if !got {
+        return Said::CannotRead;
+    }
+    let mut latencies = no_latencies();
+    if !table::decode(table, &mut latencies) {
+        return Said::Answered(answer::refused(Fault::WrongLength, 0));
+    }
+    concluded(asked, wanted, trace, &latencies, out)
+}

@@ -1,0 +1,2 @@
+-- What the places of the last records and marks say.
+pub mod Seen

@@ -1,0 +1,31 @@
+-- The words of a line of arguments: a word ends at the separator or at the end of the line, and an empty rest is no word. A byte is its
+-- number.
+use Prim.Native.Nat.{ℕ, suc}
+use mathlib.Core.Bool.{Bool, true, false, cond, _&&_}
+use mathlib.Core.List.{List, [], _∷_}
+use lib.ListN.{take, drop}
+use lib.Dec.{eqb}
+use Rattle.bytes.specs.Bytes.{indexOf}
+
+-- the words with one byte more in front of the first
+unfoldable pub before : ℕ → List (List ℕ) → List (List ℕ)
+before b [] = (b ∷ []) ∷ []
+before b (word ∷ words) = (b ∷ word) ∷ words
+
+unfoldable pub wordsOf : ℕ → List ℕ → List (List ℕ)
+wordsOf separator [] = []
+wordsOf separator (b ∷ line) = let words = wordsOf separator line in cond (eqb b separator) ([] ∷ words) (before b words)
+
+-- the bytes before the first separator, all where there is none, and the bytes behind it
+unfoldable pub upTo : ℕ → List ℕ → List ℕ
+upTo separator line = take (indexOf separator line) line
+
+unfoldable pub behind : ℕ → List ℕ → List ℕ
+behind separator line = drop (suc (indexOf separator line)) line
+
+-- "compared byte for byte"
+unfoldable pub isSame : List ℕ → List ℕ → Bool
+isSame [] [] = true
+isSame [] (b ∷ other) = false
+isSame (a ∷ word) [] = false
+isSame (a ∷ word) (b ∷ other) = eqb a b && isSame word other

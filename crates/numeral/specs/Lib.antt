@@ -1,0 +1,2 @@
+-- What a number of 64 bits is, written.
+pub mod Numeral
