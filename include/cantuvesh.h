@@ -3,7 +3,7 @@
  * ./library makes it for x86-64, as lib/libcantuvesh.a and lib/libcantuvesh.so beside
  * include/cantuvesh.h, and prints the line that compiles a program with it. It needs no set-up, keeps
  * nothing between calls, allocates nothing and may be called from several threads at once, each with
- * times and room of its own. A call takes some 160,000 bytes of the calling thread's stack (155,128 as
+ * times and room of its own. A call takes some 160,000 bytes of the calling thread's stack (155,192 as
  * reference/stack measures it: at 2,048 records, the written trace wanted).
  */
 #ifndef CANTUVESH_H
@@ -17,7 +17,7 @@
 extern "C" {
 #endif
 
-#define CANTUVESH_VERSION "0.1.0"
+#define CANTUVESH_VERSION "0.2.0"
 
 /* The sizes of a call. */
 #define CANTUVESH_TRACE_LIMIT 65536     /* the most bytes that a trace may have */
@@ -31,9 +31,23 @@ extern "C" {
 #define CANTUVESH_STRICT 1  /* an unlisted line is refused */
 #define CANTUVESH_LENIENT 2 /* an unlisted line is passed over */
 
-/* What the caller names beside the trace and the table; nothing in it has a default. */
+/* What `asked.levels` may be. */
+#define CANTUVESH_LEVELS_OFF 0 /* no levels are expected, and the three numbers are not looked at */
+#define CANTUVESH_LEVELS_ON 1  /* each processor's last mark has to tell the three numbers (17) */
+
+/* What the caller names beside the trace and the table. Nothing in it has a default here, but C sets
+ * what an initializer leaves out to 0, which is refused as a choice and is off as a switch: name both.
+ *
+ * Tracing levels are told by marks: records of type -2 and event -904 with three data under descriptor
+ * 2. No other record counts. The three expected levels stand in the order of these data and may be any
+ * numbers; one that no field can hold is never met.
+ */
 struct cantuvesh_asked {
-    uint32_t choice; /* what to do with an unlisted line: one of the two above */
+    uint32_t choice; /* what to do with an unlisted line: CANTUVESH_STRICT or CANTUVESH_LENIENT */
+    uint32_t levels; /* whether levels are expected: CANTUVESH_LEVELS_OFF or CANTUVESH_LEVELS_ON */
+    int64_t picl;    /* the expected level of PICL events */
+    int64_t user;    /* the expected level of user events */
+    int64_t trace;   /* the expected level of trace events */
 };
 
 /* What `verdict` may be in an accepted answer; 0 in a refusal. */
@@ -55,9 +69,11 @@ struct cantuvesh_answer {
 };
 
 /* Refusals, the first that holds in this order: 1 to 4; then 5 to 12 line by line, the first bad
- * line deciding; then the first receive in file order that calls for 13 or 14; then 15; then 16.
+ * line deciding; then 17, the smallest processor deciding, at the line of its last listed record; then
+ * the first receive in file order that calls for 13 or 14; then 15; then 16.
  *
- *    1  the choice is neither 1 (strict) nor 2 (lenient)
+ *    1  the choice is neither 1 (strict) nor 2 (lenient), or the levels' switch is neither 0 (off)
+ *       nor 1 (on)
  *    2  the table or the lent times have the wrong length
  *    3  a latency is above 1,000,000
  *    4  the trace is longer than 65,536 bytes
@@ -74,6 +90,8 @@ struct cantuvesh_answer {
  *   15  no times exist: a ring of waits has latencies that add up to more than 0, or a time would be
  *       beyond the format's end
  *   16  the written trace was wanted and is longer than the room
+ *   17  a processor with listed records has no tracing-level mark that counts, or its last one is not
+ *       what is expected
  */
 
 /* Judges one trace.
@@ -85,7 +103,9 @@ struct cantuvesh_answer {
  *     The least time that a message takes, in microseconds: the entry at 64 * sender + receiver. They
  *     are CANTUVESH_LATENCIES, none above CANTUVESH_LATENCY_LIMIT, whether a message uses it or not.
  * asked
- *     What the caller names, by value: in asked.choice CANTUVESH_STRICT or CANTUVESH_LENIENT.
+ *     What the caller names, by value: in asked.choice CANTUVESH_STRICT or CANTUVESH_LENIENT, in
+ *     asked.levels CANTUVESH_LEVELS_OFF or CANTUVESH_LEVELS_ON and, where they are on, in asked.picl,
+ *     asked.user and asked.trace what the last mark of each processor with listed records has to tell.
  * times, times_len
  *     Where an accepted trace's corrected times go, in microseconds and in file order of the listed
  *     records: times[0] to times[listed - 1] of CANTUVESH_TIMES places. All later ones are left as

@@ -8,7 +8,7 @@ not gives the least later times at which all agree. The library behind it is pro
 ... -3 -21 0.000011 1 0 3 2 8 2 0
 ... -4 -51 0.000013 0 0 3 2 8 2 1
 ... '''
->>> answer = cantuvesh.judge(trace, cantuvesh.table({}, default=5), "strict")
+>>> answer = cantuvesh.judge(trace, cantuvesh.table({}, default=5), "strict", levels="off")
 >>> answer.verdict, answer.matched, list(answer.times)
 ('corrected', 2, [10, 12, 15, 15, 20])
 
@@ -24,8 +24,9 @@ from array import array
 from collections.abc import Mapping
 from dataclasses import dataclass
 from pathlib import Path
-from typing import Literal
+from typing import Literal, Tuple, Union
 
+VERSION = "0.2.0"  # of the library: another one's call may be another
 TRACE_LIMIT = 65_536  # the most bytes that a trace may have
 PROCESSORS = 64  # processors are 0 to 63
 LATENCIES = PROCESSORS * PROCESSORS  # the exact number of latencies in a table
@@ -34,13 +35,15 @@ TIMES = 2_048  # the most listed records
 ROOM = TRACE_LIMIT + 8 * TIMES  # so many bytes are enough for every written trace
 
 Choice = Literal["strict", "lenient"]
+Levels = Union[Literal["off"], Tuple[int, int, int]]
 Verdict = Literal["consistent", "corrected", "nothing to judge"]
 
 _CHOICES: dict[Choice, int] = {"strict": 1, "lenient": 2}
+_OFF, _ON = 0, 1  # whether levels are expected
 _VERDICTS: dict[int, Verdict] = {1: "consistent", 2: "corrected", 3: "nothing to judge"}
 
 _SENTENCES = {
-    1: "the choice is neither 1 (strict) nor 2 (lenient)",
+    1: "the choice is neither 1 (strict) nor 2 (lenient), or the levels' switch is neither 0 (off) nor 1 (on)",
     2: "the table or the lent times have the wrong length",
     3: "a latency is above 1,000,000",
     4: "the trace is longer than 65,536 bytes",
@@ -56,6 +59,7 @@ _SENTENCES = {
     14: "the receive's length differs from its send's",
     15: "no times exist: a ring of waits has latencies that add up to more than 0, or a time would be beyond the format's end",
     16: "the written trace was wanted and is longer than the room",
+    17: "a processor with listed records has no tracing-level mark that counts, or its last one is not what is expected",
 }
 
 
@@ -117,17 +121,33 @@ def table(latencies: Mapping[tuple[int, int], int], *, default: int) -> array[in
 
 
 def judge(
-    trace: bytes | bytearray | memoryview, table: array[int] | memoryview, choice: Choice, *, written: bool = False
+    trace: bytes | bytearray | memoryview,
+    table: array[int] | memoryview,
+    choice: Choice,
+    levels: Levels,
+    *,
+    written: bool = False,
 ) -> Accepted:
     """Judges one trace, and raises Refused where it is refused.
 
     trace    bytes, or whatever lends contiguous bytes; any may be given: what is no good trace is refused
     table    the latencies as `table` makes them, or whatever lends contiguous unsigned numbers of 32 bits
     choice   "strict" or "lenient": whether a line whose record type or event type is not listed is refused or passed over
+    levels   "off", or the tracing levels that are expected, of PICL, user and trace events: the last mark of each processor
+             with listed records has to tell them, a record of type -2 and event -904 with three data under descriptor 2. They
+             may be any numbers of 64 bits; one that no field can hold is never met
     written  whether the trace with the corrected times is wanted, too
+
+    >>> trace = b"-2 -904 0.000000 0 0 3 2 4 4 0\\n-3 7 0.000001 0 0 0\\n"
+    >>> judge(trace, table({}, default=0), "strict", levels=(4, 4, 0)).listed
+    2
+    >>> try:
+    ...     judge(trace, table({}, default=0), "strict", levels=(4, 4, 1))
+    ... except Refused as refused:
+    ...     print(refused.number, refused.line)
+    17 2
     """
-    if choice not in _CHOICES:
-        raise ValueError(f'the choice should be "strict" or "lenient", and is {choice!r}')
+    asked = _asked(choice, levels)
     # Other threads run during the call: what it reads is copied, so that they cannot change it.
     text = bytes(_lent(trace, "the trace", {"B", "b", "c"}, "contiguous bytes"))
     entries = _lent(table, "the table", {"I"}, "contiguous unsigned numbers of 32 bits, as cantuvesh.table makes them")
@@ -135,7 +155,6 @@ def judge(
     times = (ctypes.c_int64 * TIMES)()
     room = (ctypes.c_char * (ROOM if written else 0))()
 
-    asked = _Asked(choice=_CHOICES[choice])
     answer = _judge(
         text, len(text), latencies, len(latencies), asked, times, len(times), bool(written), room, len(room)
     )
@@ -151,6 +170,21 @@ def judge(
         times=array("q", times[: answer.listed]),
         written=room[: answer.written] if written else None,
     )
+
+
+def _asked(choice: Choice, levels: Levels) -> _Asked:
+    if choice not in _CHOICES:
+        raise ValueError(f'the choice should be "strict" or "lenient", and is {choice!r}')
+    if isinstance(levels, str) and levels == "off":
+        return _Asked(choice=_CHOICES[choice], levels=_OFF)
+    if not (isinstance(levels, tuple) and len(levels) == 3 and all(_is_level(level) for level in levels)):
+        raise ValueError(f'the levels should be "off" or three whole numbers of 64 bits, and are {levels!r}')
+    picl, user, trace = levels
+    return _Asked(choice=_CHOICES[choice], levels=_ON, picl=picl, user=user, trace=trace)
+
+
+def _is_level(value: object) -> bool:
+    return isinstance(value, int) and not isinstance(value, bool) and -(2**63) <= value < 2**63
 
 
 def _is_whole(value: object, limit: int) -> bool:
@@ -178,7 +212,11 @@ def _lent(buffer: object, what: str, formats: set[str], kind: str) -> memoryview
 
 
 class _Asked(ctypes.Structure):
-    _fields_ = [("choice", ctypes.c_uint32)]
+    _fields_ = [
+        ("choice", ctypes.c_uint32),
+        ("levels", ctypes.c_uint32),
+        *((name, ctypes.c_int64) for name in ("picl", "user", "trace")),
+    ]
 
 
 class _Answer(ctypes.Structure):
@@ -192,7 +230,7 @@ def _loaded() -> ctypes.CDLL:
     beside = Path(__file__).resolve().parent / "../../target/library"
     folder = Path(os.environ.get("CANTUVESH_LIBRARY") or beside).resolve()
     try:
-        return ctypes.CDLL(str(folder / "lib/libcantuvesh.so"))
+        return ctypes.CDLL(str(folder / f"lib/libcantuvesh.so.{VERSION}"))
     except OSError as error:
         raise ImportError(f"{error}: run ./library, which makes it for x86-64, or name its folder in CANTUVESH_LIBRARY") from error
 

@@ -2,6 +2,7 @@
 
 from __future__ import annotations
 
+import ctypes
 import doctest
 import mmap
 import os
@@ -29,7 +30,7 @@ CORRECTED_A = array("q", [10, 12, 15, 15, 20])
 
 class Judging(unittest.TestCase):
     def test_trace_a(self):
-        answer = judge(TRACE_A, FIVES, "strict")
+        answer = judge(TRACE_A, FIVES, "strict", "off")
         counts = (answer.listed, answer.passed, answer.matched, answer.unreceived, answer.rounds)
         self.assertEqual((answer.verdict, counts), ("corrected", (5, 0, 2, 0, 3)))
         self.assertEqual(answer.times, CORRECTED_A)
@@ -37,54 +38,54 @@ class Judging(unittest.TestCase):
         self.assertIsNone(answer.written)
 
     def test_its_written_trace_is_consistent(self):
-        written = judge(TRACE_A, FIVES, "strict", written=True).written
+        written = judge(TRACE_A, FIVES, "strict", "off", written=True).written
         self.assertEqual(written, TRACE_A.replace(b".000009", b".000015").replace(b".000011", b".000015").replace(b".000013", b".000020"))
-        again = judge(written, FIVES, "strict", written=True)
+        again = judge(written, FIVES, "strict", "off", written=True)
         self.assertEqual((again.verdict, again.rounds, again.times, again.written), ("consistent", 0, CORRECTED_A, written))
 
     def test_a_written_trace_above_the_limit(self):
         """Every listed record but the first gets eight bytes longer."""
         trace = b"-3 -21 999999999.999999 0 0 3 2 8 1 1\n-4 -52 0.000000 1 0 3 2 8 1 0\n" + b"0 0 0.000000 1 0 0\n" * 2_046
         trace += b"-5 0 0.000000 0 0 1 ".ljust(65_535 - len(trace), b"x") + b"\n"
-        written = judge(trace, ZEROS, "lenient", written=True).written
+        written = judge(trace, ZEROS, "lenient", "off", written=True).written
         self.assertEqual(len(written), 65_536 + 8 * 2_047)
         self.assertEqual(written, trace.replace(b" 0.000000 1", b" 999999999.999999 1"))
 
     def test_nothing_to_judge(self):
-        silent = judge(SILENT, FIVES, "strict")
+        silent = judge(SILENT, FIVES, "strict", "off")
         self.assertEqual((silent.verdict, silent.listed, silent.matched, len(silent.times)), ("nothing to judge", 6, 0, 6))
-        empty = judge(b"", FIVES, "strict", written=True)
+        empty = judge(b"", FIVES, "strict", "off", written=True)
         self.assertEqual((empty.verdict, empty.times, empty.written), ("nothing to judge", array("q"), b""))
 
     def test_lenient_passes_over_what_strict_refuses(self):
         trace = TRACE_A + b"-5 0 0.000000 0 0 0\n"
-        lenient = judge(trace, FIVES, "lenient")
+        lenient = judge(trace, FIVES, "lenient", "off")
         self.assertEqual((lenient.passed, lenient.times), (1, CORRECTED_A))
         with self.assertRaises(Refused) as raised:
-            judge(trace, FIVES, choice="strict")
+            judge(trace, FIVES, choice="strict", levels="off")
         self.assertEqual((raised.exception.number, raised.exception.line), (7, 6))
 
     def test_an_answer_stays_as_it_is(self):
         with self.assertRaises(FrozenInstanceError):
-            judge(TRACE_A, FIVES, "strict").verdict = "consistent"
+            judge(TRACE_A, FIVES, "strict", "off").verdict = "consistent"
 
     def test_several_threads_at_once(self):
         """One trace for each sender, whose time tells which it was."""
         traces = [f"-3 -21 0.{micros:06} 0 0 3 2 8 1 1\n-4 -52 0.000000 1 0 3 2 8 1 0\n".encode() for micros in range(400)]
         with ThreadPoolExecutor(8) as threads:
-            answers = list(threads.map(lambda trace: judge(trace, FIVES, "strict"), traces))
+            answers = list(threads.map(lambda trace: judge(trace, FIVES, "strict", "off"), traces))
         self.assertEqual([list(answer.times) for answer in answers], [[micros, micros + 5] for micros in range(400)])
 
 
 class Refusing(unittest.TestCase):
     def refused(self, number, line, trace, latencies=ZEROS):
         with self.assertRaises(Refused) as raised:
-            judge(trace, latencies, "strict", written=True)
+            judge(trace, latencies, "strict", "off", written=True)
         self.assertEqual((raised.exception.number, raised.exception.line), (number, line))
         return raised.exception
 
     def test_every_number_that_can_be_reached(self):
-        """Not 1, since no other choice gets as far as the call, and not 16, since there is always room."""
+        """Not 1, since no other choice or switch gets as far as the call, and not 16, since there is always room; 17 is below."""
         self.refused(2, 0, b"", ZEROS[1:])
         self.refused(2, 0, b"", ZEROS + ZEROS)
         self.refused(2, 0, b"", array("I"))
@@ -114,10 +115,56 @@ class Refusing(unittest.TestCase):
 
     def test_a_choice_has_to_be_named(self):
         with self.assertRaises(TypeError):
-            judge(TRACE_A, FIVES)
+            judge(TRACE_A, FIVES, levels="off")
         for other in ("", "Strict", "1", 1, 2, True, None, b"strict"):
             with self.subTest(other), self.assertRaisesRegex(ValueError, '"strict" or "lenient"'):
-                judge(TRACE_A, FIVES, other)
+                judge(TRACE_A, FIVES, other, "off")
+
+
+class Levels(unittest.TestCase):
+    GOOD = b"-2 -904 0.000000 0 0 3 2 4 -1 999999999\n"
+    OTHER = b"-2 -904 0.000000 0 0 3 2 4 -1 0\n"
+    SHORT = b"-2 -904 0.000000 0 0 2 2 4 -1\n"
+    EVENT = b"-3 7 0.000001 0 0 0\n"
+    ELSEWHERE = b"-3 7 0.000001 1 0 0\n"
+    EXPECTED = (4, -1, 999_999_999)
+
+    def test_levels_that_are_met(self):
+        for lines in ([], [self.GOOD, self.EVENT], [self.OTHER, self.GOOD, self.SHORT]):
+            with self.subTest(lines):
+                trace = b"".join(lines)
+                met = judge(trace, ZEROS, "strict", self.EXPECTED, written=True)
+                self.assertEqual(met, judge(trace, ZEROS, "strict", "off", written=True))
+                self.assertEqual((met.listed, met.written), (len(lines), trace))
+
+    def refused(self, line, lines, levels):
+        with self.assertRaises(Refused) as raised:
+            judge(b"".join(lines), ZEROS, "strict", levels)
+        self.assertEqual((raised.exception.number, raised.exception.line), (17, line))
+
+    def test_levels_that_are_not(self):
+        self.refused(3, [self.GOOD, self.OTHER, self.EVENT, self.ELSEWHERE], self.EXPECTED)
+        self.refused(3, [self.GOOD, self.EVENT, self.ELSEWHERE], self.EXPECTED)
+        self.refused(2, [self.SHORT, self.EVENT], self.EXPECTED)
+        for levels in ((-1, 4, 999_999_999), (4, 999_999_999, -1), (4, -1, 2**63 - 1), (-(2**63), -1, 999_999_999)):
+            self.refused(2, [self.GOOD, self.EVENT], levels)
+
+    def test_levels_that_are_off(self):
+        self.assertEqual(judge(self.GOOD + self.OTHER + self.ELSEWHERE, ZEROS, "strict", levels="off").listed, 3)
+
+    def test_levels_have_to_be_named(self):
+        with self.assertRaises(TypeError):
+            judge(TRACE_A, FIVES, "strict")
+        no_triples = ((), (1, 1), (1, 1, 1, 1), [1, 1, 1], {1, 2, 3}, array("q", [1, 1, 1]))
+        no_levels = ((1, 1, None), (1, 1.0, 1), ("1", 1, 1), (True, 1, 1), (2**63, 0, 0), (0, -(2**63) - 1, 0))
+        for other in ("", "on", "Off", b"off", None, False, 0, 1, *no_triples, *no_levels):
+            with self.subTest(other), self.assertRaisesRegex(ValueError, '"off" or three whole numbers'):
+                judge(TRACE_A, FIVES, "strict", other)
+
+    def test_what_is_asked_has_the_places_of_c(self):
+        asked = cantuvesh._Asked
+        places = [getattr(asked, name).offset for name in ("choice", "levels", "picl", "user", "trace")]
+        self.assertEqual((places, ctypes.sizeof(asked)), ([0, 4, 8, 16, 24], 32))
 
 
 class Buffers(unittest.TestCase):
@@ -125,29 +172,29 @@ class Buffers(unittest.TestCase):
         apart = memoryview(b"?" + TRACE_A + b"?")[1:-1]
         for trace in (bytearray(TRACE_A), memoryview(TRACE_A), apart, apart.cast("c"), array("B", TRACE_A)):
             with self.subTest(trace):
-                self.assertEqual(judge(trace, FIVES, "strict").times, CORRECTED_A)
+                self.assertEqual(judge(trace, FIVES, "strict", "off").times, CORRECTED_A)
         with tempfile.TemporaryFile() as file:
             file.write(TRACE_A)
             file.flush()
             with mmap.mmap(file.fileno(), 0, access=mmap.ACCESS_READ) as mapped:
-                self.assertEqual(judge(mapped, FIVES, "strict").times, CORRECTED_A)
+                self.assertEqual(judge(mapped, FIVES, "strict", "off").times, CORRECTED_A)
 
     def test_a_trace_that_is_none(self):
         spread = bytes(byte for pair in zip(TRACE_A, TRACE_A) for byte in pair)
         for trace in (memoryview(spread)[::2], memoryview(TRACE_A)[::-1], array("I", [1]), TRACE_A.decode(), None, 5, [1]):
             with self.subTest(trace), self.assertRaisesRegex(TypeError, "the trace should be contiguous bytes"):
-                judge(trace, FIVES, "strict")
+                judge(trace, FIVES, "strict", "off")
 
     def test_whatever_lends_latencies(self):
         file = (SAMPLES / "five.table").read_bytes()
         for latencies in (array("I", file), memoryview(FIVES), memoryview(file).cast("I"), memoryview(file).cast("I", (64, 64))):
             with self.subTest(latencies):
-                self.assertEqual(judge(TRACE_A, latencies, "strict").times, CORRECTED_A)
+                self.assertEqual(judge(TRACE_A, latencies, "strict", "off").times, CORRECTED_A)
 
     def test_latencies_that_are_none(self):
         for latencies in (memoryview(FIVES * 2)[::2], array("i", FIVES), array("Q", FIVES), FIVES.tobytes(), list(FIVES), {}, None):
             with self.subTest(latencies), self.assertRaisesRegex(TypeError, "the table should be contiguous unsigned numbers"):
-                judge(TRACE_A, latencies, "strict")
+                judge(TRACE_A, latencies, "strict", "off")
 
 
 class Tables(unittest.TestCase):
@@ -192,7 +239,7 @@ class Loading(unittest.TestCase):
                 text=True,
             )
         self.assertNotEqual(run.returncode, 0)
-        self.assertRegex(run.stderr, f"ImportError: {empty}/lib/libcantuvesh.so: .*: run ./library, .* CANTUVESH_LIBRARY")
+        self.assertRegex(run.stderr, f"ImportError: {empty}/lib/libcantuvesh.so.{cantuvesh.VERSION}: .*: run ./library, .* CANTUVESH_LIBRARY")
 
 
 def load_tests(_loader, tests, _pattern):

@@ -10,8 +10,14 @@ pub fn judge(call: Inputs) -> Answer {
 
 /// Judges a trace by one library or another.
 pub fn judge_by(library: Library, call: Inputs) -> Answer {
-    let Inputs { trace, latencies, asked: Asked { choice }, times, wanted, room } = call;
-    let raw::Answer { number, line, verdict, listed, passed, matched, unreceived, rounds, written } =
-        library.judge(trace, latencies, raw::Asked { choice }, times, wanted, room);
+    let Inputs { trace: bytes, latencies, asked, times, wanted, room } = call;
+    let Asked { choice, levels, picl, user, trace } = asked;
+    let asked = raw::Asked { choice, levels, picl, user, trace };
+    answer_of(library.judge(bytes, latencies, asked, times, wanted, room))
+}
+
+/// The library's answer as the reference's.
+pub fn answer_of(given: raw::Answer) -> Answer {
+    let raw::Answer { number, line, verdict, listed, passed, matched, unreceived, rounds, written } = given;
     Answer { number, line, verdict, listed, passed, matched, unreceived, rounds, written }
 }

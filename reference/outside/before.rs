@@ -3,10 +3,15 @@
 
 use crate::archive::judge_by;
 use cantuvesh::raw::Library;
-use reference::{Answer, Inputs};
+use reference::{Answer, Asked, Inputs};
 
 unsafe extern "C" {
     fn cantuvesh_judge_before();
+}
+
+/// Whether the older library can be asked this.
+pub fn knows(_: Asked) -> bool {
+    true
 }
 
 /// Judges a trace by the older library.

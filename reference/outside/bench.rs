@@ -7,12 +7,13 @@
 
 mod archive;
 #[cfg(feature = "before")]
+#[cfg_attr(feature = "before-levels", path = "before_levels.rs")]
 mod before;
 mod programs;
 mod turns;
 
 use reference::generator::workload::{self, Workload};
-use reference::{Answer, Asked, Inputs, MAX_BYTES, MAX_RECORDS, judge};
+use reference::{Answer, Inputs, MAX_BYTES, MAX_RECORDS, judge};
 use std::convert::Infallible;
 use std::env;
 use std::path::Path;
@@ -55,23 +56,26 @@ fn measure_all() -> Result<(), String> {
 
 type Judge = fn(Inputs) -> Answer;
 
+/// The older library, if it can be asked what this workload asks.
 #[cfg(feature = "before")]
-const BEFORE: Option<Judge> = Some(before::judge);
+fn before(workload: &Workload) -> Option<Judge> {
+    before::knows(workload.asked).then_some(before::judge)
+}
 #[cfg(not(feature = "before"))]
-const BEFORE: Option<Judge> = None;
-
-const JUDGES: Sides<Judge> = Sides { ours: archive::judge, before: BEFORE, reference: judge };
+fn before(_: &Workload) -> Option<Judge> {
+    None
+}
 
 fn measure(workload: &Workload, time: Duration) -> Result<Row, String> {
+    let judges: Sides<Judge> = Sides { ours: archive::judge, before: before(workload), reference: judge };
     let mut times = vec![0; MAX_RECORDS];
     let mut room = vec![0; MAX_BYTES + MAX_RECORDS];
     let mut call = |judge: Judge| -> Answer {
-        let &Workload { ref trace, ref latencies, wanted, .. } = workload;
-        let asked = Asked { choice: 2 };
+        let &Workload { asked, ref trace, ref latencies, wanted, .. } = workload;
         judge(Inputs { trace, latencies, asked, times: &mut times, wanted, room: &mut room })
     };
     let expected = call(judge);
-    for (side, &held) in JUDGES.held_to_it() {
+    for (side, &held) in judges.held_to_it() {
         let given = call(held);
         if given != expected {
             let name = workload.name;
@@ -91,7 +95,7 @@ fn measure(workload: &Workload, time: Duration) -> Result<Row, String> {
         }
         Ok(start.elapsed().as_secs_f64() * 1e6 / f64::from(calls))
     };
-    let Ok(row) = Row::measured(workload.name, &JUDGES, time, sample);
+    let Ok(row) = Row::measured(workload.name, &judges, time, sample);
     row.print();
     println!("    {}", described(workload, &expected));
     Ok(row)

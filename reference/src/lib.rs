@@ -1,16 +1,18 @@
-//! Document 01 in plain Rust: one trace in; verdict, counts, corrected times and the corrected
-//! trace out.
+//! Document 01 and request 1 of document 02 in plain Rust: one trace in; verdict, counts, corrected
+//! times and the corrected trace out.
 //!
-//! Written from the paper alone, to be held against the proved library (`outside/compare.rs`) and
-//! measured beside it (`outside/bench.rs`). The modules follow the paper's order: [`form`] and
-//! [`line`] are "One line, one record", [`trace`] reads line after line, [`message`] and [`clock`]
-//! are "Matching and the clock condition", [`report`] is what the program prints.
+//! Written from the papers alone, to be held against the proved library (`outside/compare.rs`) and
+//! measured beside it (`outside/bench.rs`). The modules follow the papers' order: [`form`] and
+//! [`line`] are "One line, one record", [`trace`] reads line after line, [`levels`] is request 1,
+//! [`message`] and [`clock`] are "Matching and the clock condition", [`report`] is what the program
+//! prints.
 
 #![forbid(unsafe_code)]
 
 pub mod clock;
 pub mod form;
 pub mod generator;
+pub mod levels;
 pub mod line;
 pub mod message;
 pub mod refusal;
@@ -18,6 +20,7 @@ pub mod report;
 pub mod trace;
 pub mod trial;
 
+use levels::Levels;
 use refusal::Refusal;
 
 /// Processors are numbered below this.
@@ -56,6 +59,38 @@ pub struct Answer {
 pub struct Asked {
     /// 1 strict, 2 lenient.
     pub choice: u32,
+    /// Whether the levels below are expected: 0 off, 1 on.
+    pub levels: u32,
+    /// The three expected tracing levels, in the order of a mark's data; any numbers, and not looked at
+    /// where they are off.
+    pub picl: i64,
+    pub user: i64,
+    pub trace: i64,
+}
+
+impl Asked {
+    pub const fn with_levels_off(choice: u32) -> Asked {
+        Asked { choice, levels: 0, picl: 0, user: 0, trace: 0 }
+    }
+
+    pub const fn expecting(choice: u32, Levels { picl, user, trace }: Levels) -> Asked {
+        Asked { choice, levels: 1, picl, user, trace }
+    }
+
+    /// The choice and, where they are on, the expected levels; none if either number is refusal 1.
+    fn heard(self) -> Option<(Choice, Option<Levels>)> {
+        let Asked { choice, levels, picl, user, trace } = self;
+        let choice = match choice {
+            1 => Choice::Strict,
+            2 => Choice::Lenient,
+            _ => return None,
+        };
+        match levels {
+            0 => Some((choice, None)),
+            1 => Some((choice, Some(Levels { picl, user, trace }))),
+            _ => None,
+        }
+    }
 }
 
 /// Whether unlisted lines are refused or passed over.
@@ -90,11 +125,7 @@ pub fn judge(call: Inputs) -> Answer {
 
 fn accept(call: Inputs) -> Result<Answer, Refusal> {
     let Inputs { trace, latencies, asked, times, wanted, room } = call;
-    let choice = match asked.choice {
-        1 => Choice::Strict,
-        2 => Choice::Lenient,
-        _ => return Err(Refusal::of_all(refusal::CHOICE)),
-    };
+    let (choice, expected) = asked.heard().ok_or(Refusal::of_all(refusal::ASKED))?;
     if latencies.len() != LATENCIES || times.len() != MAX_RECORDS {
         return Err(Refusal::of_all(refusal::LENGTH));
     }
@@ -106,6 +137,9 @@ fn accept(call: Inputs) -> Result<Answer, Refusal> {
     }
 
     let trace::Listing { records, passed } = trace::read(trace, choice)?;
+    if let Some(expected) = expected {
+        levels::check(&records, expected)?;
+    }
     let message::Messages { send_of, matched, unreceived } = message::pair(&records)?;
     let settled = clock::settle(&records, &send_of, latencies);
     let clock::Settled { times: corrected, rounds } = settled.ok_or(Refusal::of_all(refusal::NO_TIMES))?;

@@ -1,6 +1,7 @@
 //! One line: refused, passed over or a listed record. The checks stand in the paper's order.
 
 use crate::form::{time, whole};
+use crate::levels::Levels;
 use crate::refusal::{FORM, MESSAGE, NOT_HANDLED, PLACE, TIMESTAMP, UNLISTED};
 use crate::{Choice, PROCESSORS};
 use std::ops::Range;
@@ -20,6 +21,8 @@ pub struct Record {
     /// Where the timestamp stands in the line.
     pub stamp: Range<usize>,
     pub role: Role,
+    /// The tracing levels that it tells, if it is a mark that counts.
+    pub levels: Option<Levels>,
 }
 
 /// The part that a record has in a message, if any.
@@ -91,9 +94,13 @@ pub fn read(line: &[u8], choice: Choice) -> Result<Line, u64> {
         (-4, -51 | -52) => Role::Receive(message(&data).ok_or(MESSAGE)?),
         _ => Role::Local,
     };
+    let levels = match (record_type, event) {
+        (-2, -904) => three_wholes(&data).map(|[picl, user, trace]| Levels { picl, user, trace }),
+        _ => None,
+    };
     let start = fields[0].len() + 1 + fields[1].len() + 1;
     let stamp = start..start + fields[2].len();
-    Ok(Line::Listed(Record { processor, time, stamp, role }))
+    Ok(Line::Listed(Record { processor, time, stamp, role, levels }))
 }
 
 /// An unlisted line with data has a space and at least one more byte after its six fields.
@@ -133,14 +140,17 @@ fn data(count: i64, rest: Option<&[u8]>) -> Option<Data> {
     Some(if rest[0] == b'2' { Data::Wholes(values) } else { Data::Times })
 }
 
-/// Length, message type and partner: three whole numbers.
+/// Three data under descriptor 2.
+fn three_wholes(data: &Data) -> Option<[i64; 3]> {
+    match data {
+        Data::Wholes(values) => values.as_slice().try_into().ok(),
+        _ => None,
+    }
+}
+
+/// Length, message type and partner.
 fn message(data: &Data) -> Option<Message> {
-    let Data::Wholes(values) = data else {
-        return None;
-    };
-    let &[length, kind, partner] = values.as_slice() else {
-        return None;
-    };
+    let [length, kind, partner] = three_wholes(data)?;
     let partner = on_machine(partner)?;
     (length >= 0).then_some(Message { length, kind, partner })
 }

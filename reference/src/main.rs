@@ -1,11 +1,11 @@
 //! The program: `cantuvesh-reference CHOICE TRACE TABLE [WRITTEN]`.
 //!
-//! Prints the report, or "cannot read". A file named for the written trace is made only where the
+//! No tracing levels are expected: they are off. Prints the report, or "cannot read". A file named for the written trace is made only where the
 //! trace is accepted.
 
 #![forbid(unsafe_code)]
 
-use reference::refusal::{CHOICE, LENGTH};
+use reference::refusal::{ASKED, LENGTH};
 use reference::report::{CANNOT_READ, report};
 use reference::{Answer, Asked, Inputs, LATENCIES, MAX_BYTES, MAX_RECORDS, judge};
 use std::env;
@@ -19,7 +19,7 @@ fn main() -> ExitCode {
         Some(b"1") => 1,
         Some(b"2") => 2,
         _ => {
-            print!("{}", refused(CHOICE));
+            print!("{}", refused(ASKED));
             return ExitCode::SUCCESS;
         }
     };
@@ -42,7 +42,7 @@ fn main() -> ExitCode {
     let answer = judge(Inputs {
         trace: &trace,
         latencies: &latencies,
-        asked: Asked { choice },
+        asked: Asked::with_levels_off(choice),
         times: &mut times,
         wanted: name.is_some(),
         room: &mut room,

@@ -1,6 +1,6 @@
-//! The paper's "Numbers a caller gets back".
+//! Document 01's "Numbers a caller gets back", and 17 of document 02.
 
-pub const CHOICE: u64 = 1;
+pub const ASKED: u64 = 1;
 pub const LENGTH: u64 = 2;
 pub const LATENCY: u64 = 3;
 pub const BYTES: u64 = 4;
@@ -16,6 +16,7 @@ pub const UNMATCHED: u64 = 13;
 pub const OTHER_LENGTH: u64 = 14;
 pub const NO_TIMES: u64 = 15;
 pub const ROOM: u64 = 16;
+pub const LEVELS: u64 = 17;
 
 /// A refusal with its line, 0 for none.
 #[derive(Clone, Copy, Debug, PartialEq, Eq)]

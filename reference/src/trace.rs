@@ -1,6 +1,7 @@
 //! The lines of a trace one after the other, and the trace written again with other times.
 
 use crate::form::write_time;
+use crate::levels::Levels;
 use crate::line::{self, Line, Role};
 use crate::refusal::{FORM, ORDER, RECORDS, Refusal};
 use crate::{Choice, MAX_RECORDS, PROCESSORS};
@@ -16,6 +17,8 @@ pub struct Record {
     /// Where its timestamp stands in the trace.
     pub stamp: Range<usize>,
     pub role: Role,
+    /// The tracing levels that it tells, if it is a mark that counts.
+    pub levels: Option<Levels>,
 }
 
 /// The listed records in file order, and how many lines were passed over.
@@ -36,7 +39,7 @@ pub fn read(trace: &[u8], choice: Choice) -> Result<Listing, Refusal> {
         let text_without_end = text.strip_suffix(b"\n").ok_or(refused(FORM))?;
         match line::read(text_without_end, choice).map_err(refused)? {
             Line::Passed => passed += 1,
-            Line::Listed(line::Record { processor, time, stamp, role }) => {
+            Line::Listed(line::Record { processor, time, stamp, role, levels }) => {
                 if last[processor].is_some_and(|last| time < last) {
                     return Err(refused(ORDER));
                 }
@@ -45,7 +48,7 @@ pub fn read(trace: &[u8], choice: Choice) -> Result<Listing, Refusal> {
                 }
                 last[processor] = Some(time);
                 let stamp = start + stamp.start..start + stamp.end;
-                records.push(Record { line: number, processor, time, stamp, role });
+                records.push(Record { line: number, processor, time, stamp, role, levels });
             }
         }
         start += text.len();

@@ -98,8 +98,10 @@ fn place_of_difference<T: PartialEq + fmt::Debug>(
 /// How often each number and each verdict came up, and how often each kind of trace.
 #[derive(Clone, Debug, Default, PartialEq, Eq)]
 pub struct Tally {
-    pub numbers: [u64; 17],
+    pub numbers: [u64; 18],
     pub verdicts: [u64; 4],
+    /// Accepted traces with listed records of which levels were expected.
+    pub levels_met: u64,
     pub kinds: BTreeMap<&'static str, u64>,
 }
 
@@ -111,6 +113,7 @@ impl Tally {
     pub fn count(&mut self, case: &Case, answer: &Answer) {
         self.numbers[answer.number as usize] += 1;
         self.verdicts[answer.verdict as usize] += 1;
+        self.levels_met += u64::from(answer.listed > 0 && case.asked.levels == 1);
         *self.kinds.entry(case.kind).or_default() += 1;
     }
 
@@ -121,8 +124,10 @@ impl Tally {
             (format!("number {number}"), times, floor)
         });
         let verdicts = (1..=3).map(|verdict| (format!("verdict {verdict}"), self.verdicts[verdict], 500));
+        let levels_met = [("levels met".to_string(), self.levels_met, 500)];
         numbers
             .chain(verdicts)
+            .chain(levels_met)
             .filter(|&(_, times, floor)| times < floor)
             .map(|(name, times, floor)| format!("{name} came up {times} times, {floor} are asked"))
             .collect()
@@ -140,6 +145,6 @@ impl fmt::Display for Tally {
         for verdict in 1..=3 {
             writeln!(out, "verdict {verdict:<7}{:>8}", self.verdicts[verdict])?;
         }
-        Ok(())
+        writeln!(out, "levels met     {:>8}", self.levels_met)
     }
 }

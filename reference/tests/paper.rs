@@ -78,7 +78,7 @@ fn p8_p9_times_about_zero() {
 
 #[test]
 fn p10_choice_3() {
-    assert_eq!(number(TRACE_A, Asked { choice: 3 }), (1, 0));
+    assert_eq!(number(TRACE_A, Asked::with_levels_off(3)), (1, 0));
 }
 
 #[test]

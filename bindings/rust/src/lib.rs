@@ -3,7 +3,7 @@
 //! proved; `./library` makes it.
 //!
 //! ```
-//! use cantuvesh::{Asked, Choice, Latencies, TIMES, Verdict, judge};
+//! use cantuvesh::{Asked, Choice, Latencies, Levels, TIMES, Verdict, judge};
 //!
 //! let trace = b"-3 -21 0.000010 0 0 3 2 8 1 1
 //! -4 -21 0.000012 0 0 0
@@ -13,7 +13,8 @@
 //! ";
 //! let latencies = Latencies::everywhere(5);
 //! let mut times = [0; TIMES];
-//! let accepted = judge(trace, &latencies, Asked { choice: Choice::Strict }, &mut times, None)?;
+//! let asked = Asked { choice: Choice::Strict, levels: Levels::Off };
+//! let accepted = judge(trace, &latencies, asked, &mut times, None)?;
 //! assert_eq!(accepted.verdict, Verdict::Corrected);
 //! assert_eq!(times[..accepted.listed], [10, 12, 15, 15, 20]);
 //! # Ok::<(), cantuvesh::Refused>(())
@@ -58,12 +59,59 @@ pub enum Choice {
     Lenient = 2,
 }
 
+/// The tracing levels that the trace has to tell. There is no default.
+///
+/// A processor tells them by marks: records of type -2 and event -904 with three data under descriptor 2. No
+/// other record counts.
+///
+/// ```
+/// use cantuvesh::{Asked, Choice, Latencies, Levels, Refusal, TIMES, judge};
+///
+/// let trace = b"-2 -904 0.000000 0 0 3 2 4 4 0\n-3 7 0.000001 0 0 0\n";
+/// let judged = |levels| {
+///     let asked = Asked { choice: Choice::Strict, levels };
+///     judge(trace, &Latencies::everywhere(0), asked, &mut [0; TIMES], None)
+/// };
+/// assert!(judged(Levels::Off).is_ok());
+/// assert!(judged(Levels::Expected { picl: 4, user: 4, trace: 0 }).is_ok());
+/// let refused = judged(Levels::Expected { picl: 4, user: 4, trace: 1 }).unwrap_err();
+/// assert_eq!((refused.refusal, refused.line.unwrap().get()), (Refusal::Levels, 2));
+/// ```
+#[derive(Clone, Copy, Debug, PartialEq, Eq, Hash)]
+pub enum Levels {
+    /// None are expected.
+    Off,
+    /// Each processor with listed records has a mark, and its last one tells these three, in the order of
+    /// its data. They may be any numbers; one that no field can hold is never met.
+    Expected {
+        /// The level of PICL events.
+        picl: i64,
+        /// The level of user events.
+        user: i64,
+        /// The level of trace events.
+        trace: i64,
+    },
+}
+
 /// What the caller names beside the trace and the table. Nothing in it has a default: what is asked for
 /// later becomes a field, and a caller is compiled again only when it names that too.
 #[derive(Clone, Copy, Debug, PartialEq, Eq, Hash)]
 pub struct Asked {
     /// What to do with an unlisted line.
     pub choice: Choice,
+    /// The tracing levels that are expected, if any.
+    pub levels: Levels,
+}
+
+/// As the C call takes it: the numbers of levels that are off are not looked at.
+impl From<Asked> for raw::Asked {
+    fn from(Asked { choice, levels }: Asked) -> raw::Asked {
+        let choice = choice as u32;
+        match levels {
+            Levels::Off => raw::Asked { choice, levels: 0, picl: 0, user: 0, trace: 0 },
+            Levels::Expected { picl, user, trace } => raw::Asked { choice, levels: 1, picl, user, trace },
+        }
+    }
 }
 
 /// What an accepted trace is.
@@ -128,10 +176,8 @@ pub fn judge(
     times: &mut [i64],
     room: Option<&mut [u8]>,
 ) -> Result<Accepted, Refused> {
-    let Asked { choice } = asked;
-    let asked = raw::Asked { choice: choice as u32 };
     let wanted = room.is_some();
-    let answer = raw::LINKED.judge(trace, latencies, asked, times, wanted, room.unwrap_or_default());
+    let answer = raw::LINKED.judge(trace, latencies, asked.into(), times, wanted, room.unwrap_or_default());
     if answer.number != 0 {
         return Err(Refused::numbered(answer.number, answer.line));
     }

@@ -9,6 +9,15 @@ use std::mem;
 pub struct Asked {
     /// 1 strict, 2 lenient; all else is refusal 1.
     pub choice: u32,
+    /// Whether tracing levels are expected: 0 off, 1 on; all else is refusal 1.
+    pub levels: u32,
+    /// The expected level of PICL events. The three may be any numbers, and are not looked at where they
+    /// are off.
+    pub picl: i64,
+    /// The expected level of user events.
+    pub user: i64,
+    /// The expected level of trace events.
+    pub trace: i64,
 }
 
 /// `struct cantuvesh_answer`: a refusal has its number and line, and 0 in all the rest.

@@ -34,7 +34,7 @@ macro_rules! refusals {
 }
 
 refusals! {
-    Choice = 1 "the choice is neither 1 (strict) nor 2 (lenient)"
+    Choice = 1 "the choice is neither 1 (strict) nor 2 (lenient), or the levels' switch is neither 0 (off) nor 1 (on)"
     Lengths = 2 "the table or the lent times have the wrong length"
     Latency = 3 "a latency is above 1,000,000"
     TraceTooLong = 4 "the trace is longer than 65,536 bytes"
@@ -50,6 +50,7 @@ refusals! {
     OtherLength = 14 "the receive's length differs from its send's"
     NoTimes = 15 "no times exist: a ring of waits has latencies that add up to more than 0, or a time would be beyond the format's end"
     RoomTooShort = 16 "the written trace was wanted and is longer than the room"
+    Levels = 17 "a processor with listed records has no tracing-level mark that counts, or its last one is not what is expected"
 }
 
 impl Refusal {

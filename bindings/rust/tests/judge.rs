@@ -2,17 +2,18 @@
 
 use cantuvesh::Refusal::{self, *};
 use cantuvesh::{
-    Accepted, Asked, Choice, LATENCIES, LATENCY_LIMIT, Latencies, ROOM, Refused, TIMES, TRACE_LIMIT, Verdict,
-    judge, raw,
+    Accepted, Asked, Choice, LATENCIES, LATENCY_LIMIT, Latencies, Levels, ROOM, Refused, TIMES, TRACE_LIMIT,
+    Verdict, judge, raw,
 };
+use std::mem::{offset_of, size_of};
 use std::num::NonZero;
 
 const TRACE_A: &[u8] = include_bytes!("../../../samples/a.picl");
 const TRACE_B: &[u8] = include_bytes!("../../../samples/b.picl");
 const SILENT: &[u8] = include_bytes!("../../../samples/silent.picl");
 
-const STRICT: Asked = Asked { choice: Choice::Strict };
-const LENIENT: Asked = Asked { choice: Choice::Lenient };
+const STRICT: Asked = Asked { choice: Choice::Strict, levels: Levels::Off };
+const LENIENT: Asked = Asked { choice: Choice::Lenient, levels: Levels::Off };
 
 /// Stands in every lent place beforehand; no time of a sample.
 const UNTOUCHED: i64 = -7;
@@ -126,6 +127,35 @@ fn refusals_of_a_line() {
 }
 
 #[test]
+fn levels_that_are_expected() {
+    let good = b"-2 -904 0.000000 0 0 3 2 4 -1 999999999\n".as_slice();
+    let other = b"-2 -904 0.000000 0 0 3 2 4 -1 0\n".as_slice();
+    let short = b"-2 -904 0.000000 0 0 2 2 4 -1\n".as_slice();
+    let event = b"-3 7 0.000001 0 0 0\n".as_slice();
+    let elsewhere = b"-3 7 0.000001 1 0 0\n".as_slice();
+    let expected = Levels::Expected { picl: 4, user: -1, trace: 999_999_999 };
+    let judged = |lines: &[&[u8]], levels| {
+        let asked = Asked { choice: Choice::Strict, levels };
+        judged(&lines.concat(), &Latencies::everywhere(0), asked, None).0
+    };
+    for lines in [&[][..], &[good, event], &[other, good, short]] {
+        assert_eq!(judged(lines, expected), judged(lines, Levels::Off));
+        assert_eq!(judged(lines, expected).unwrap().listed, lines.len());
+    }
+    assert_eq!(reason(judged(&[good, other, event, elsewhere], expected)), (Refusal::Levels, 3));
+    assert_eq!(reason(judged(&[good, event, elsewhere], expected)), (Refusal::Levels, 3));
+    assert_eq!(reason(judged(&[short, event], expected)), (Refusal::Levels, 2));
+    // A number that no field can hold, and each of the three in its own place.
+    for (picl, user, trace) in
+        [(4, -1, i64::MAX), (-1, 4, 999_999_999), (4, 999_999_999, -1), (i64::MIN, -1, 0)]
+    {
+        let levels = Levels::Expected { picl, user, trace };
+        assert_eq!(reason(judged(&[good, event], levels)), (Refusal::Levels, 2));
+    }
+    assert_eq!(judged(&[good, other, event, elsewhere], Levels::Off).unwrap().listed, 4);
+}
+
+#[test]
 fn a_refusal_says_its_number_its_line_and_its_sentence() {
     let of_a_line = judged(b"-5 0 0.000000 0 0 0\n", &Latencies::everywhere(0), STRICT, None).0.unwrap_err();
     let sentence = "the record type or the event type is not listed, and the choice is strict";
@@ -148,16 +178,37 @@ fn raw_gives_the_numbers_as_they_are() {
         rounds: 0,
         written: 0,
     };
-    let call = |choice, trace, latencies: &[u32], times: usize| {
-        raw::LINKED.judge(trace, latencies, raw::Asked { choice }, &mut vec![0; times], true, &mut [0; ROOM])
+    let off = |choice| raw::Asked { choice, levels: 0, picl: i64::MAX, user: -7, trace: i64::MIN };
+    let call = |asked, trace, latencies: &[u32], times: usize| {
+        raw::LINKED.judge(trace, latencies, asked, &mut vec![0; times], true, &mut [0; ROOM])
     };
     for choice in [0, 3, u32::MAX] {
-        assert_eq!(call(choice, TRACE_A, &[], 0), raw::Answer { number: Refusal::Choice.number(), ..none });
+        let refused = raw::Answer { number: Refusal::Choice.number(), ..none };
+        assert_eq!(call(off(choice), TRACE_A, &[], 0), refused);
     }
-    assert_eq!(call(1, b"", &[], 0), raw::Answer { number: 2, ..none });
-    assert_eq!(call(1, b"x\n", &[0; LATENCIES], TIMES), raw::Answer { number: 5, line: 1, ..none });
+    for levels in [2, 257, u32::MAX] {
+        assert_eq!(call(raw::Asked { levels, ..off(1) }, b"", &[], 0), raw::Answer { number: 1, ..none });
+    }
+    assert_eq!(call(off(1), b"", &[], 0), raw::Answer { number: 2, ..none });
+    assert_eq!(call(off(1), b"x\n", &[0; LATENCIES], TIMES), raw::Answer { number: 5, line: 1, ..none });
+    let on = raw::Asked { levels: 1, ..off(1) };
+    assert_eq!(call(on, TRACE_A, &[5; LATENCIES], TIMES), raw::Answer { number: 17, line: 5, ..none });
     let accepted = raw::Answer { verdict: 2, listed: 5, matched: 2, rounds: 3, written: 142, ..none };
-    assert_eq!(call(1, TRACE_A, &[5; LATENCIES], TIMES), accepted);
+    assert_eq!(call(off(1), TRACE_A, &[5; LATENCIES], TIMES), accepted);
+}
+
+/// As a C compiler lays out `struct cantuvesh_asked`.
+#[test]
+fn what_is_asked_has_the_places_of_c() {
+    use raw::Asked;
+    let places = [
+        offset_of!(Asked, choice),
+        offset_of!(Asked, levels),
+        offset_of!(Asked, picl),
+        offset_of!(Asked, user),
+        offset_of!(Asked, trace),
+    ];
+    assert_eq!((places, size_of::<Asked>()), ([0, 4, 8, 16, 24], 32));
 }
 
 #[test]

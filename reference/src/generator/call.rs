@@ -20,12 +20,19 @@ pub fn room(case: &Case, random: &mut Random) -> usize {
     }
 }
 
-/// Now and then a wrong choice, a slice of the wrong length, a latency above the limit, or several
-/// of them at once.
+/// Now and then a wrong choice or switch, a slice of the wrong length, a latency above the limit, or
+/// several of them at once.
 pub fn spoil(case: &mut Case, random: &mut Random) {
     let often = if random.chance(10) { 20 } else { 1 };
     if random.chance(often) {
-        case.asked.choice = random.pick(&[0, 3, 4, u32::MAX, 1 << 16, 257, 0x8000_0001, 0x8000_0002]);
+        let which = random.below(5);
+        if which < 3 {
+            case.asked.choice = random.pick(&[0, 3, 4, u32::MAX, 1 << 16, 257, 0x8000_0001, 0x8000_0002]);
+        }
+        if which > 1 {
+            case.asked.levels =
+                random.pick(&[2, 2, 3, u32::MAX, 1 << 16, 256, 257, 0x8000_0000, 0x8000_0001]);
+        }
     }
     if random.chance(often) {
         let length = random.pick(&[0, 1, LATENCIES - 1, LATENCIES + 1, 2 * LATENCIES, MAX_RECORDS]);

@@ -28,7 +28,11 @@ pub fn records(random: &mut Random) -> Draft {
             }
             chain(count, 10).iter().map(|record| record.text()).collect()
         }
-        _ => (0..count).map(|place| format!("0 0 0.{place:06} {} 0 0", place % 10).into_bytes()).collect(),
+        _ => {
+            // Ten marks, one of each processor, at the start or at the end; or none.
+            let marks = random.pick(&[0, MAX_RECORDS - 10, count, count]);
+            (0..count).map(|place| user_event(place, (marks..marks + 10).contains(&place))).collect()
+        }
     };
     lines.truncate(count);
     match random.below(10) {
@@ -51,6 +55,16 @@ pub fn records(random: &mut Random) -> Draft {
         _ => {}
     }
     Draft { kind: "many records", trace: joined(&lines), latencies }
+}
+
+/// A user event on one of ten processors, or a mark of its tracing levels.
+fn user_event(place: usize, mark: bool) -> Vec<u8> {
+    let processor = place % 10;
+    let record = match mark {
+        true => format!("-2 -904 0.{place:06} {processor} 0 3 2 1 1 1"),
+        false => format!("0 0 0.{place:06} {processor} 0 0"),
+    };
+    record.into_bytes()
 }
 
 /// Bytes about the limit of 65,536: filled up by lines passed over, or by one long line.

@@ -2,11 +2,12 @@
 //!
 //! [`run`] makes sound runs and looks at them through wrong clocks, [`shape`] makes chains, rings
 //! and what else has a known shape, [`damage`] spoils them, [`near`] and [`soup`] put lines together
-//! from good and bad parts, [`limit`] goes to the ends of every size and number, and [`call`] is the
-//! rest of a call.
+//! from good and bad parts, [`limit`] goes to the ends of every size and number, [`level`] expects
+//! tracing levels and marks them, and [`call`] is the rest of a call.
 
 mod call;
 mod damage;
+mod level;
 mod limit;
 mod near;
 pub mod random;
@@ -47,12 +48,13 @@ impl Case {
         let mut random = Random::new(seed);
         let Draft { kind, trace, latencies } = draft(&mut random);
         let choice = if random.chance(35) { 1 } else { 2 };
+        let (asked, trace) = level::asked(&mut random, choice, trace);
         let mut case = Case {
             seed,
             kind,
             trace,
             latencies,
-            asked: Asked { choice },
+            asked,
             times: MAX_RECORDS,
             wanted: random.chance(50),
             room: 0,

@@ -3,11 +3,13 @@
 use super::flat_table;
 use super::record::{Data, Record, joined, trace_of};
 use super::shape::{chain, clocks_off, many_types, neighbours};
-use crate::{MAX_BYTES, MAX_RECORDS};
+use crate::levels::Levels;
+use crate::{Asked, MAX_BYTES, MAX_RECORDS};
 
 /// A trace and its table, read leniently.
 pub struct Workload {
     pub name: &'static str,
+    pub asked: Asked,
     pub trace: Vec<u8>,
     pub latencies: Vec<u32>,
     pub wanted: bool,
@@ -16,15 +18,22 @@ pub struct Workload {
 /// Ten processors keep a line of a message at 30 bytes, so that 2,048 of them fit.
 const ROW: usize = 10;
 const LATENCY: u32 = 20;
+const LEVELS: Levels = Levels { picl: 4, user: 4, trace: 0 };
 
 pub fn all() -> Vec<Workload> {
     let sound = neighbours(MAX_RECORDS, ROW, i64::from(LATENCY));
     let mut off = sound.clone();
     clocks_off(&mut off, 1_000_000);
-    let of = |name, trace, latency| Workload { name, trace, latencies: flat_table(latency), wanted: false };
+    let asked = Asked::with_levels_off(2);
+    let of = |name, trace, latency| {
+        let latencies = flat_table(latency);
+        Workload { name, asked, trace, latencies, wanted: false }
+    };
+    let marks = trace_of(&with_marks(&sound));
     vec![
         of("2,048 records without messages", trace_of(&user_events(MAX_RECORDS)), 0),
         of("neighbours, sound clocks", trace_of(&sound), LATENCY),
+        Workload { asked: Asked::expecting(2, LEVELS), ..of("the same, marks as expected", marks, LATENCY) },
         of("neighbours, clocks off by a second", trace_of(&off), LATENCY),
         Workload { wanted: true, ..of("the same, the written trace wanted", trace_of(&off), LATENCY) },
         of("a chain of 2,000 rounds", trace_of(&chain(2_001, ROW)), 1),
@@ -45,6 +54,21 @@ fn user_events(records: usize) -> Vec<Record> {
             record
         })
         .collect()
+}
+
+/// So many of these records, every seventh of them followed by a mark of its processor's levels.
+fn with_marks(records: &[Record]) -> Vec<Record> {
+    let data = Data::Wholes(vec![LEVELS.picl, LEVELS.user, LEVELS.trace]);
+    let mut marked = Vec::with_capacity(MAX_RECORDS);
+    for (place, record) in records.iter().enumerate() {
+        marked.push(record.clone());
+        if place % 7 == 0 {
+            let mark = Record::local(-2, -904, record.time, record.processor);
+            marked.push(Record { data: data.clone(), ..mark });
+        }
+    }
+    marked.truncate(MAX_RECORDS);
+    marked
 }
 
 /// Statistics, as in the report's Table 20, to the last byte.

@@ -20,8 +20,8 @@ pub const TRACE_B: &str = "\
 ";
 
 #[allow(dead_code)]
-pub const STRICT: Asked = Asked { choice: 1 };
-pub const LENIENT: Asked = Asked { choice: 2 };
+pub const STRICT: Asked = Asked::with_levels_off(1);
+pub const LENIENT: Asked = Asked::with_levels_off(2);
 
 /// The answer, and the places of the times that were touched.
 pub fn judged(trace: impl AsRef<[u8]>, latencies: &[u32], asked: Asked) -> (Answer, Vec<i64>) {
