@@ -111,8 +111,8 @@ module _ (n : ℕ) (k : NoKey (negsuc n)) where
   stands : {s : Standing} (lo hi : ℕ) → lo ≤ suc n → suc n ≤ hi → standingIn lo hi ≡ some s → s ≡ negative (suc n)
   unfolding negative
   stands {s} lo hi l h e =
-      picked (over messages lo hi) Message _ e (inRanges messages (suc n)) (λ t. over-is lo hi (suc n) l h messages (not-21, (tt, tt))) _
-      (λ e. picked (over notHandled lo hi) NotHandled _ e (inRanges notHandled (suc n)) (λ t. over-is lo hi (suc n) l h notHandled (tt, (tt, tt))) _
+      picked (over messages lo hi) Message _ e (inRanges messages (suc n)) (λ t. over-is lo hi (suc n) l h messages (not-21, (tt, (tt, (tt, tt))))) _
+      (λ e. picked (over notHandled lo hi) NotHandled _ e (inRanges notHandled (suc n)) (λ t. over-is lo hi (suc n) l h notHandled (tt, (tt, (tt, (tt, tt))))) _
       (λ e. picked (over listedEvents lo hi) Listed (some Unlisted) e (inRanges listedEvents (suc n)) (λ t. over-is lo hi (suc n) l h listedEvents (tt, (tt, (not-221, (not-251, (tt, (tt, (tt, (tt, (tt, tt)))))))))) Unlisted (λ e. sym (some-injective Unlisted s e))))
 
 -- ---- the ways of the code, for an event e read back from its bits

@@ -1,4 +1,4 @@
--- What a listed line's record is, and its message.
+-- A listed line's message, its place and its record.
 use Prim.Native.Nat.{ℕ}
 use mathlib.Core.Path.{_≡_, refl, sym, ap, _∙_}
 use mathlib.Core.List.{List}
@@ -26,35 +26,6 @@ use Rattle.line.specs.declared.listed.Note.the-variants as Note
 use Rattle.signed.specs.Naturals.{sizeOf, naturalOf}
 use Rattle.signed.specs.declared.Natural.{Natural}
 use Rattle.signed.specs.declared.Natural.the-variants.{Of, Outside}
-use Rattle.signed.proofs.Equal.{eqZ-true}
-
--- ---- what the record is
-
-module _ {k u e v : ℤ} (same-kind : u ≡ k) (same-event : v ≡ e) where
-  pub sends : eqZ u (negsuc 2) ≡ true → eqZ v (negsuc 20) ≡ true → Sends ≡ partOf k e
-  unfolding partOf
-  sends a b = rw (← same-kind, ← same-event, a, b)
-
-  pub other-entry : eqZ u (negsuc 2) ≡ true → eqZ v (negsuc 20) ≡ false → Neither ≡ partOf k e
-  unfolding partOf
-  other-entry a b = let q : k ≡ negsuc 2 = sym same-kind ∙ eqZ-true u (negsuc 2) a in rw (q, ← same-event, b)
-
-  module _ (not-entry : eqZ u (negsuc 2) ≡ false) where
-    pub receives : eqZ u (negsuc 3) ≡ true → eqZ v (negsuc 50) ≡ true → Receives ≡ partOf k e
-    unfolding partOf
-    receives a b = rw (← same-kind, ← same-event, not-entry, a, b)
-
-    pub receives-too : eqZ u (negsuc 3) ≡ true → eqZ v (negsuc 50) ≡ false → eqZ v (negsuc 51) ≡ true → Receives ≡ partOf k e
-    unfolding partOf
-    receives-too a b c = rw (← same-kind, ← same-event, not-entry, a, b, c)
-
-    pub other-exit : eqZ u (negsuc 3) ≡ true → eqZ v (negsuc 50) ≡ false → eqZ v (negsuc 51) ≡ false → Neither ≡ partOf k e
-    unfolding partOf
-    other-exit a b c = rw (← same-kind, ← same-event, not-entry, a, b, c)
-
-    pub other-kind : eqZ u (negsuc 3) ≡ false → Neither ≡ partOf k e
-    unfolding partOf
-    other-kind a = rw (← same-kind, ← same-event, not-entry, a)
 
 -- ---- a size, or a number up to the most
 

@@ -1,47 +1,25 @@
 -- A line sorted by its record type and its event type.
-use Prim.Native.Nat.{ℕ, zero, suc, _<_, _≤_}
+use Prim.Native.Nat.{ℕ, zero, suc}
 use mathlib.Core.Path.{_≡_, refl, sym, ap, _∙_}
 use mathlib.Core.List.{List}
-use mathlib.Core.Bool.{Bool, true, false, cond, _||_}
+use mathlib.Core.Bool.{Bool, true, false, cond}
 use mathlib.Core.Option.{Option, none, some}
 use native.Mathlib.Omega.{arith}
 use lib.ListN.{length, drop, length-drop}
-use lib.IntN.{ℤ, pos, negsuc}
 use lib.Dec.{ltb}
 use borrow.Author.Tests.{lt-ltb, le-ltb, ltb-true, ltb-false}
-use Rattle.paper.specs.Tests.{eqZ}
 use Rattle.paper.specs.Events.{listedKind, standingOf}
-use Rattle.paper.specs.Line.{goodEnd, stepOver, unlisted, sorted, listedLine, Begun, bad, six, begun, lineOf, headOf}
+use Rattle.paper.specs.Line.{goodEnd, stepOver, unlisted, sorted, six, begun, lineOf, headOf}
 use Rattle.paper.specs.declared.Choice.{Choice}
 use Rattle.paper.specs.declared.Head.{Head}
 use Rattle.paper.specs.declared.Fault.{Fault}
 use Rattle.paper.specs.declared.Fault.the-variants as Fault
 use Rattle.paper.specs.declared.Standing.{Standing}
 use Rattle.paper.specs.declared.Standing.the-variants as Standing
-use Rattle.paper.specs.declared.Line.{Line}
-use Rattle.paper.specs.declared.Line.the-variants.{Refused, Passed, Listed}
+use Rattle.paper.specs.declared.Line.the-variants.{Refused}
 use Rattle.fields.specs.Cursor.{restAt, begunOf, begunNext, Tells}
 use Rattle.fields.specs.declared.Opening.{Opening}
 use Rattle.fields.specs.declared.Opening.the-variants as Opening
-
--- ---- the record type
-
-module _ {k u : ℤ} (same : u ≡ k) where
-  pub mark : eqZ u (negsuc 1) ≡ true → true ≡ listedKind k
-  unfolding listedKind
-  mark a = rw (rw same at a)
-
-  pub entry : eqZ u (negsuc 1) ≡ false → eqZ u (negsuc 2) ≡ true → true ≡ listedKind k
-  unfolding listedKind
-  entry a b = rw (rw same at a, rw same at b)
-
-  pub exit : eqZ u (negsuc 1) ≡ false → eqZ u (negsuc 2) ≡ false → eqZ u (negsuc 3) ≡ true → true ≡ listedKind k
-  unfolding listedKind
-  exit a b c = rw (rw same at a, rw same at b, rw same at c)
-
-  pub user : eqZ u (negsuc 1) ≡ false → eqZ u (negsuc 2) ≡ false → eqZ u (negsuc 3) ≡ false → eqZ u (pos 0) ≡ listedKind k
-  unfolding listedKind
-  user a b c = rw (← same, a, b, c)
 
 -- ---- the end of an unlisted line
 

@@ -1,6 +1,6 @@
 // A listed line: "then 9, data (5), 10".
 ghost use mathlib.Core.Path.{_≡_};
-ghost use Rattle.paper.specs.Line.{placed, partOf, messageOf, roleOf, withRole, withData, listedLine};
+ghost use Rattle.paper.specs.Line.{placed, messageOf, roleOf, withRole, withData, listedLine};
 ghost use Rattle.fields.specs.Cursor.{restAt};
 ghost use Rattle.signed.specs.Naturals.{numberIn};
 ghost use Rattle.line.specs.Sorting.{noteOf, castOf};
@@ -24,27 +24,6 @@ pub(crate) enum Note {
 pub(crate) enum Cast {
     Of(Role),
     Nothing,
-}
-
-// "A send is an entry record of -21 .. A receive is an exit record of -51 or -52"
-fn part_of(kind: i64, event: i64) -> Part
-    ensures { λ r. ⌜ r ≡ partOf kind event ⌝ }
-{
-    if signed::same(kind, -3) {
-        if signed::same(event, -21) {
-            return Part::Sends;
-        }
-        return Part::Neither;
-    }
-    if signed::same(kind, -4) {
-        if signed::same(event, -51) {
-            return Part::Receives;
-        }
-        if signed::same(event, -52) {
-            return Part::Receives;
-        }
-    }
-    Part::Neither
 }
 
 // "Length is 0 or more; the named processor is 0 to 63."
@@ -136,5 +115,5 @@ pub(crate) fn listed_line(l: &[u8], h: Head, next: usize) -> Line
         return Line::Refused(Fault::Place);
     };
     let values = fields::read_data(l, next, h.count);
-    with_data(h, processor, part_of(h.kind, h.event), values)
+    with_data(h, processor, parts::part_of(h.kind, h.event), values)
 }

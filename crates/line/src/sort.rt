@@ -1,6 +1,5 @@
 // "Next the record type (7 or passed over), event not handled (8), event type (7 or passed over)".
 ghost use mathlib.Core.Path.{_≡_};
-ghost use Rattle.paper.specs.Events.{listedKind};
 ghost use Rattle.paper.specs.Line.{goodEnd, stepOver, unlisted, begun, six};
 ghost use Rattle.fields.specs.Cursor.{restAt};
 use crate::listed;
@@ -9,22 +8,6 @@ use paper::Fault;
 use paper::Head;
 use paper::Line;
 use paper::Standing;
-
-// "Listed record types: -2 mark, -3 entry, -4 exit, 0 user data."
-fn listed_kind(kind: i64) -> bool
-    ensures { λ r. ⌜ r ≡ listedKind kind ⌝ }
-{
-    if signed::same(kind, -2) {
-        return true;
-    }
-    if signed::same(kind, -3) {
-        return true;
-    }
-    if signed::same(kind, -4) {
-        return true;
-    }
-    signed::same(kind, 0)
-}
 
 // "with a data count above zero a space and at least one more byte must follow, otherwise LF"
 fn good_end(l: &[u8], next: usize, count: usize) -> bool
@@ -59,7 +42,7 @@ pub(crate) fn sort_line(choice: Choice, l: &[u8], h: Head, next: usize) -> Line
     ensures { λ r. ⌜ r ≡ begun choice (six h (restAt (now (l .entry)) next)) ⌝ }
 {
     let kind = h.kind;
-    if listed_kind(kind) {
+    if parts::listed_kind(kind) {
         let event = h.event;
         match events::standing(event) {
             Standing::Listed => listed::listed_line(l, h, next),

@@ -1,28 +1,36 @@
--- Document 01: "Event types are sorted by range", the table, and the listed record types. A negative number -(n + 1) is `negsuc n`.
+-- Document 01: "Event types are sorted by range", the table, and the listed record types; with the events of change request 2, and those
+-- of sends and receives. A negative number -(n + 1) is `negsuc n`, and -n is `minus n`.
 use Prim.Native.Nat.{ℕ, suc}
-use mathlib.Core.Bool.{Bool, true, false, cond, _&&_, _||_}
+use mathlib.Core.Bool.{Bool, false, cond, _&&_, _||_}
 use mathlib.Core.List.{List, [], _∷_}
 use lib.IntN.{ℤ, pos, negsuc}
 use lib.Dec.{leb}
-use Rattle.paper.specs.Tests.{eqZ}
+use Rattle.paper.specs.Tests.{minus, oneOf}
 use Rattle.paper.specs.declared.Standing.{Standing}
 use Rattle.paper.specs.declared.Standing.the-variants.{Listed, Message, NotHandled, Unlisted}
 
 -- "Listed record types: -2 mark, -3 entry, -4 exit, 0 user data."
+abbrev pub listedKinds : List ℤ
+listedKinds = minus 2 ∷ minus 3 ∷ minus 4 ∷ pos 0 ∷ []
+
 unfoldable pub listedKind : ℤ → Bool
-listedKind k = eqZ k (negsuc 1) || eqZ k (negsuc 2) || eqZ k (negsuc 3) || eqZ k (pos 0)
+listedKind k = oneOf listedKinds k
+
+-- ---- the table
 
 -- n is in one of the ranges, ends included
 unfoldable pub inRanges : List (ℕ × ℕ) → ℕ → Bool
 inRanges [] n = false
 inRanges (r ∷ rs) n = (leb (r .0) n && leb n (r .1)) || inRanges rs n
 
--- the table's rows of negative event types, without their minus
+-- the table's rows of negative event types, without their minus. "List the events of sendbegin0, sendstatus0, sendend0, recvbegin0,
+-- recvstatus0 and recvend0 in source document 001, Table 4": -27, -28 and -29, -30 and -31; -57, -58 and -59, -60 and -61
 abbrev pub messages : List (ℕ × ℕ)
-messages = (21, 21) ∷ (51, 52) ∷ []
+messages = (21, 21) ∷ (27, 31) ∷ (51, 52) ∷ (57, 61) ∷ []
 
+-- "These types leave refusal 8; all others stay in it."
 abbrev pub notHandled : List (ℕ × ℕ)
-notHandled = (22, 50) ∷ (53, 80) ∷ []
+notHandled = (22, 26) ∷ (32, 50) ∷ (53, 56) ∷ (62, 80) ∷ []
 
 abbrev pub listedEvents : List (ℕ × ℕ)
 listedEvents =
@@ -37,3 +45,14 @@ negative n =
 unfoldable pub standingOf : ℤ → Standing
 standingOf (pos n) = cond (leb n 999999999) Listed Unlisted
 standingOf (negsuc n) = negative (suc n)
+
+-- ---- sends and receives
+
+-- "A send is an entry record of -21", "A send is also sendbegin0's entry", which is -27
+abbrev pub sendEvents : List ℤ
+sendEvents = minus 21 ∷ minus 27 ∷ []
+
+-- "A receive is an exit record of -51 or -52", "a receive is also each exit of recvstatus0 or recvend0 that found it complete": -58, and
+-- -60 or -61. -57 only posts the request, and -59 finds it not complete
+abbrev pub receiveEvents : List ℤ
+receiveEvents = minus 51 ∷ minus 52 ∷ minus 58 ∷ minus 60 ∷ minus 61 ∷ []

@@ -1,16 +1,16 @@
 -- Document 01, "One line, one record" and "Within a line": what a line comes to, without its LF. LF is 10 and a space is 32.
 use Prim.Native.Nat.{ℕ, zero, suc}
 use mathlib.Core.List.{List, [], _∷_}
-use mathlib.Core.Bool.{Bool, true, false, cond, _&&_, _||_}
+use mathlib.Core.Bool.{Bool, true, false, cond, _&&_}
 use mathlib.Core.Option.{Option, none, some, Option·map}
 use lib.ListN.{length, take, drop}
-use lib.IntN.{ℤ, pos, negsuc, natAbs}
+use lib.IntN.{ℤ, pos, natAbs}
 use lib.Signed.{leZ}
 use lib.Dec.{ltb, leb}
 use Rattle.bytes.specs.Bytes.{indexOf}
-use Rattle.paper.specs.Tests.{eqZ, upTo}
+use Rattle.paper.specs.Tests.{eqZ, upTo, minus, oneOf}
 use Rattle.paper.specs.Forms.{wholeOf, timeOf}
-use Rattle.paper.specs.Events.{listedKind, standingOf}
+use Rattle.paper.specs.Events.{listedKind, standingOf, sendEvents, receiveEvents}
 use Rattle.paper.specs.declared.Choice.{Choice}
 use Rattle.paper.specs.declared.Choice.the-variants.{Strict, Lenient}
 use Rattle.paper.specs.declared.Field.{Field}
@@ -165,14 +165,15 @@ dataOf (suc n) fields =
 unfoldable pub placed : ℤ → ℤ → Option ℕ
 placed processor process = cond (upTo 63 processor && eqZ process (pos 0)) (some (natAbs processor)) none
 
--- "A send is an entry record of -21 .. A receive is an exit record of -51 or -52"
+-- "A send is an entry record .. A receive is an exit record", each of its event types
 unfoldable pub partOf : ℤ → ℤ → Part
 partOf kind event =
-    cond (eqZ kind (negsuc 2) && eqZ event (negsuc 20)) Part.Sends
-    (cond (eqZ kind (negsuc 3) && (eqZ event (negsuc 50) || eqZ event (negsuc 51))) Part.Receives Part.Neither)
+    cond (eqZ kind (minus 3) && oneOf sendEvents event) Part.Sends
+    (cond (eqZ kind (minus 4) && oneOf receiveEvents event) Part.Receives Part.Neither)
 
 -- "its three data under descriptor 2 are length, message type, destination [source]. .. Length is 0 or more; the named
--- processor is 0 to 63."
+-- processor is 0 to 63." "Length, type and processor stand where those tables put them; 10 asks for the number of data given there": the
+-- report's Tables 7 and 8 have all three at the same places of every send and receive, and as many, "4 (3)"
 unfoldable pub messageOf : Data → Option Message
 messageOf Malformed = none
 messageOf (Three length tag peer) =

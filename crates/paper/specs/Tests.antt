@@ -1,7 +1,8 @@
 -- Tests on signed numbers that the paper's words need.
 use Prim.Native.Nat.{ℕ}
-use mathlib.Core.Bool.{Bool, true, false, _&&_}
-use lib.IntN.{ℤ, pos, negsuc}
+use mathlib.Core.Bool.{Bool, false, _&&_, _||_}
+use mathlib.Core.List.{List, [], _∷_}
+use lib.IntN.{ℤ, pos, negsuc, negℤ}
 use lib.Signed.{leZ}
 use lib.Dec.{eqb}
 
@@ -14,3 +15,12 @@ eqZ (negsuc a) (negsuc b) = eqb a b
 -- "0 to n"
 abbrev pub upTo : ℕ → ℤ → Bool
 upTo n z = leZ (pos 0) z && leZ z (pos n)
+
+-- "-n"
+abbrev pub minus : ℕ → ℤ
+minus n = negℤ (pos n)
+
+-- z is one of these numbers
+unfoldable pub oneOf : List ℤ → ℤ → Bool
+oneOf [] z = false
+oneOf (a ∷ more) z = eqZ z a || oneOf more z

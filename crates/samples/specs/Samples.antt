@@ -1,5 +1,6 @@
 -- Document 01, "Sample traces": those marked P, each a call from the trace's bytes with its whole outcome and the program's whole
--- report of it; and in the same way what the first change request and its reading say of the tracing levels.
+-- report of it; and in the same way what the first change request and its reading say of the tracing levels, and the second of messages
+-- that are posted and finish later.
 use Prim.Native.Nat.{ℕ, _+_, _*_}
 use Prim.Native.String.{String}
 use mathlib.Core.Path.{_≡_}
@@ -44,6 +45,44 @@ entry0 = "-3 5 0.000000 0 0 0\n"
 
 abbrev entry1 : String
 entry1 = "-3 5 0.000000 1 0 0\n"
+
+-- trace A with both messages posted and finished later, and with one end of each posted
+abbrev postedA : List String
+postedA =
+    "-3 -27 0.000010 0 0 3 2 8 1 1\n"
+    ∷ "-4 -27 0.000012 0 0 1 2 1\n"
+    ∷ "-4 -60 0.000009 1 0 3 2 8 1 0\n"
+    ∷ "-3 -27 0.000011 1 0 3 2 8 2 0\n"
+    ∷ "-4 -61 0.000013 0 0 3 2 8 2 1\n"
+    ∷ []
+
+abbrev mixedA : List String
+mixedA =
+    "-3 -27 0.000010 0 0 3 2 8 1 1\n"
+    ∷ "-4 -27 0.000012 0 0 1 2 1\n"
+    ∷ "-4 -52 0.000009 1 0 3 2 8 1 0\n"
+    ∷ "-3 -21 0.000011 1 0 3 2 8 2 0\n"
+    ∷ "-4 -58 0.000013 0 0 3 2 8 2 1\n"
+    ∷ []
+
+-- what only posts, finds not complete or ends a send, and a mark, each with the data of a message
+abbrev noMessages : List String
+noMessages =
+    "-4 -27 0.000000 0 0 3 2 8 1 0\n"
+    ∷ "-4 -57 0.000000 0 0 3 2 8 1 0\n"
+    ∷ "-4 -59 0.000000 0 0 3 2 8 1 0\n"
+    ∷ "-3 -31 0.000000 0 0 3 2 8 1 0\n"
+    ∷ "-2 -61 0.000000 0 0 3 2 8 1 0\n"
+    ∷ []
+
+-- two messages of one type, of 8 and of 16 bytes, received by two events
+abbrev twoEvents : List String
+twoEvents =
+    "-3 -21 0.000001 0 0 3 2 8 5 1\n"
+    ∷ "-3 -21 0.000002 0 0 3 2 16 5 1\n"
+    ∷ "-4 -51 0.000003 1 0 3 2 8 5 0\n"
+    ∷ "-4 -60 0.000004 1 0 3 2 8 5 0\n"
+    ∷ []
 
 abbrev joined : List String → List ℕ
 joined [] = []
@@ -227,6 +266,41 @@ samples =
     }
     -- "0 for off .. or 1 for on; any other is refusal 1"
     ∷ record { call = expecting 2 (goodMark ∷ []); comes = refusal 1 0; shows = "refused 1 line 0\n" ∷ [] }
+    -- request 2: "A send is also sendbegin0's entry; a receive is also each exit of recvstatus0 or recvend0 that found it complete": as P1
+    ∷ record {
+      call = given (joined postedA) (everywhere 5) 1;
+      comes = answer 2 2 3 (pos 10 ∷ pos 12 ∷ pos 15 ∷ pos 15 ∷ pos 20 ∷ []);
+      shows = report "verdict corrected\n" "listed 5\n" "matched 2\n" "rounds 3\n";
+    }
+    ∷ record {
+      call = given (joined mixedA) (everywhere 5) 2;
+      comes = answer 2 2 3 (pos 10 ∷ pos 12 ∷ pos 15 ∷ pos 15 ∷ pos 20 ∷ []);
+      shows = report "verdict corrected\n" "listed 5\n" "matched 2\n" "rounds 3\n";
+    }
+    -- none of these is a send or a receive
+    ∷ record {
+      call = given (joined noMessages) (everywhere 0) 1;
+      comes = answer 3 0 0 (pos 0 ∷ pos 0 ∷ pos 0 ∷ pos 0 ∷ pos 0 ∷ []);
+      shows = report "verdict nothing to judge\n" "listed 5\n" "matched 0\n" "rounds 0\n";
+    }
+    -- "Receives count by completion": the second belongs to the send of 16 bytes, although it is the first of its event
+    ∷ record {
+      call = given (joined twoEvents) (everywhere 0) 1;
+      comes = refusal 14 4;
+      shows = "refused 14 line 4\n" ∷ [];
+    }
+    -- "These types leave refusal 8; all others stay in it": wait0's -56, under lenient too
+    ∷ record {
+      call = given (bytesOf "-4 -56 0.000000 0 0 3 2 8 1 0\n") (everywhere 0) 2;
+      comes = refusal 8 1;
+      shows = "refused 8 line 1\n" ∷ [];
+    }
+    -- "10 asks for the number of data given there": three, and the report's four are too many
+    ∷ record {
+      call = given (bytesOf "-3 -27 0.000000 0 0 4 2 8 1 1 0\n") (everywhere 0) 1;
+      comes = refusal 10 1;
+      shows = "refused 10 line 1\n" ∷ [];
+    }
     ∷ []
 
 -- each comes to what it should, and is reported so

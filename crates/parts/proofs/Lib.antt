@@ -1,0 +1,3 @@
+pub mod OneOf
+pub mod Parts
+pub mod Outcome
