@@ -17,7 +17,7 @@
 extern "C" {
 #endif
 
-#define CANTUVESH_VERSION "0.2.0"
+#define CANTUVESH_VERSION "0.3.0"
 
 /* The sizes of a call. */
 #define CANTUVESH_TRACE_LIMIT 65536     /* the most bytes that a trace may have */
@@ -49,6 +49,19 @@ struct cantuvesh_asked {
     int64_t user;    /* the expected level of user events */
     int64_t trace;   /* the expected level of trace events */
 };
+
+/* Messages are records with three data under descriptor 2: the length in bytes, the type, and the
+ * processor that it goes to or comes from.
+ *
+ *     send     the entry (-3) of send0, -21, or of sendbegin0, -27
+ *     receive  the exit (-4) of recv0, -51 or -52, of recvstatus0 that found it complete, -58, or of
+ *              recvend0, -60 or -61
+ *
+ * The k-th receive at a processor from another, of one type, belongs to the k-th send from that one to
+ * it, of that type, both counted in file order and whichever of these events they are. All other
+ * records of -21, -27 to -31, -51, -52 and -57 to -61 are listed and no messages; what is left of -21 to
+ * -80 is refused (8).
+ */
 
 /* What `verdict` may be in an accepted answer; 0 in a refusal. */
 #define CANTUVESH_CONSISTENT 1       /* messages matched, and no time had to move */

@@ -12,6 +12,9 @@ not gives the least later times at which all agree. The library behind it is pro
 >>> answer.verdict, answer.matched, list(answer.times)
 ('corrected', 2, [10, 12, 15, 15, 20])
 
+Messages may be blocking, or posted and finished later: a send is the entry of -21 or -27, a receive the exit of -51, -52, -58,
+-60 or -61.
+
 The library is looked for in the folder that CANTUVESH_LIBRARY names, else in the checkout's target/library. A call keeps nothing
 and may be made from several threads at once; it takes some 160,000 bytes of the calling thread's stack.
 """
@@ -26,7 +29,7 @@ from dataclasses import dataclass
 from pathlib import Path
 from typing import Literal, Tuple, Union
 
-VERSION = "0.2.0"  # of the library: another one's call may be another
+VERSION = "0.3.0"  # of the library: another one's call may be another
 TRACE_LIMIT = 65_536  # the most bytes that a trace may have
 PROCESSORS = 64  # processors are 0 to 63
 LATENCIES = PROCESSORS * PROCESSORS  # the exact number of latencies in a table

@@ -23,6 +23,7 @@ SAMPLES = Path(__file__).resolve().parents[2] / "samples"
 TRACE_A = (SAMPLES / "a.picl").read_bytes()
 TRACE_B = (SAMPLES / "b.picl").read_bytes()
 SILENT = (SAMPLES / "silent.picl").read_bytes()
+POSTED = (SAMPLES / "posted.picl").read_bytes()
 ZEROS = table({}, default=0)
 FIVES = table({}, default=5)
 CORRECTED_A = array("q", [10, 12, 15, 15, 20])
@@ -56,6 +57,12 @@ class Judging(unittest.TestCase):
         self.assertEqual((silent.verdict, silent.listed, silent.matched, len(silent.times)), ("nothing to judge", 6, 0, 6))
         empty = judge(b"", FIVES, "strict", "off", written=True)
         self.assertEqual((empty.verdict, empty.times, empty.written), ("nothing to judge", array("q"), b""))
+
+    def test_messages_that_are_posted_and_finish_later(self):
+        posted = judge(POSTED, FIVES, "strict", "off", written=True)
+        self.assertEqual((posted.verdict, posted.listed, posted.matched, posted.rounds), ("corrected", 20, 2, 3))
+        self.assertEqual(list(posted.times[-4:]), [95, 115, 115, 115])
+        self.assertEqual(posted.written, POSTED.replace(b".000098", b".000115").replace(b"28 0.000100", b"28 0.000115").replace(b".000102", b".000115"))
 
     def test_lenient_passes_over_what_strict_refuses(self):
         trace = TRACE_A + b"-5 0 0.000000 0 0 0\n"
@@ -94,7 +101,7 @@ class Refusing(unittest.TestCase):
         self.refused(5, 2, b"0 0 0.000000 0 0 0\nx\n")
         self.refused(6, 1, b"0 0 -0.000000 0 0 0\n")
         self.refused(7, 1, b"-5 0 0.000000 0 0 0\n")
-        self.refused(8, 1, b"0 -60 0.000000 0 0 0\n")
+        self.refused(8, 1, b"0 -56 0.000000 0 0 0\n")
         self.refused(9, 1, b"0 0 0.000000 64 0 0\n")
         self.refused(10, 1, b"-3 -21 0.000000 0 0 0\n")
         self.refused(11, 2, b"0 0 0.000001 0 0 0\n0 0 0.000000 0 0 0\n")

@@ -1,11 +1,11 @@
-//! Document 01 and request 1 of document 02 in plain Rust: one trace in; verdict, counts, corrected
-//! times and the corrected trace out.
+//! Document 01 and requests 1 and 2 of document 02 in plain Rust: one trace in; verdict, counts,
+//! corrected times and the corrected trace out.
 //!
 //! Written from the papers alone, to be held against the proved library (`outside/compare.rs`) and
 //! measured beside it (`outside/bench.rs`). The modules follow the papers' order: [`form`] and
-//! [`line`] are "One line, one record", [`trace`] reads line after line, [`levels`] is request 1,
-//! [`message`] and [`clock`] are "Matching and the clock condition", [`report`] is what the program
-//! prints.
+//! [`line`] are "One line, one record" and request 2, [`trace`] reads line after line, [`levels`] is
+//! request 1, [`message`] and [`clock`] are "Matching and the clock condition", [`report`] is what the
+//! program prints.
 
 #![forbid(unsafe_code)]
 

@@ -1,4 +1,4 @@
-//! One line: refused, passed over or a listed record. The checks stand in the paper's order.
+//! One line: refused, passed over or a listed record. The checks stand in document 01's order.
 
 use crate::form::{time, whole};
 use crate::levels::Levels;
@@ -41,7 +41,7 @@ pub struct Message {
     pub partner: usize,
 }
 
-/// How the paper's table sorts an event type.
+/// How document 01's table sorts an event type, the ten events of request 2 among the listed ones.
 #[derive(Clone, Copy, Debug, PartialEq, Eq)]
 pub enum Standing {
     Listed,
@@ -52,7 +52,7 @@ pub enum Standing {
 pub fn standing(event: i64) -> Standing {
     match event {
         0.. => Standing::Listed,
-        -12..=-11 | -21 | -52..=-51 => Standing::Listed,
+        -12..=-11 | -21 | -31..=-27 | -52..=-51 | -61..=-57 => Standing::Listed,
         -80..=-22 => Standing::NotHandled,
         -202..=-201 | -221 | -251 | -402..=-401 | -503..=-501 | -603..=-601 => Standing::Listed,
         -904..=-901 | -914..=-911 => Standing::Listed,
@@ -89,9 +89,11 @@ pub fn read(line: &[u8], choice: Choice) -> Result<Line, u64> {
         return Err(PLACE);
     }
     let data = data(count, rest).ok_or(FORM)?;
+    // A send is where it begins and a receive where it is complete: -59 found that it is not, and what
+    // tells of a send's end tells of no arrival.
     let role = match (record_type, event) {
-        (-3, -21) => Role::Send(message(&data).ok_or(MESSAGE)?),
-        (-4, -51 | -52) => Role::Receive(message(&data).ok_or(MESSAGE)?),
+        (-3, -21 | -27) => Role::Send(message(&data).ok_or(MESSAGE)?),
+        (-4, -51 | -52 | -58 | -60 | -61) => Role::Receive(message(&data).ok_or(MESSAGE)?),
         _ => Role::Local,
     };
     let levels = match (record_type, event) {

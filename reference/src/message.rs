@@ -1,4 +1,5 @@
-//! Each receive with its send: the k-th of a sender, receiver and message type with the k-th.
+//! Each receive with its send: the k-th of a sender, receiver and message type with the k-th, whatever
+//! events they are.
 
 use crate::line::Role;
 use crate::refusal::{OTHER_LENGTH, Refusal, UNMATCHED};

@@ -2,7 +2,7 @@
 //! untouched ones and those around them among them.
 
 use crate::generator::Case;
-use crate::{Answer, Inputs};
+use crate::{Answer, Choice, Inputs, form, message, trace};
 use std::collections::BTreeMap;
 use std::fmt;
 
@@ -95,6 +95,20 @@ fn place_of_difference<T: PartialEq + fmt::Debug>(
     ))
 }
 
+/// The messages of an accepted trace, each by the events of its send and of its receive.
+pub fn events_of_messages(trace: &[u8]) -> Vec<(i64, i64)> {
+    // Strict reading would pass nothing over, or would have refused it.
+    let Ok(trace::Listing { records, .. }) = trace::read(trace, Choice::Lenient) else { return Vec::new() };
+    let Ok(message::Messages { send_of, .. }) = message::pair(&records) else { return Vec::new() };
+    // The event stands before the timestamp, with a space on either side.
+    let event = |place: usize| {
+        let start = &trace[..records[place].stamp.start - 1];
+        form::whole(start.rsplit(|&byte| byte == b' ').next()?)
+    };
+    let messages = send_of.iter().enumerate().filter_map(|(receive, &send)| Some((send?, receive)));
+    messages.filter_map(|(send, receive)| Some((event(send)?, event(receive)?))).collect()
+}
+
 /// How often each number and each verdict came up, and how often each kind of trace.
 #[derive(Clone, Debug, Default, PartialEq, Eq)]
 pub struct Tally {
@@ -102,6 +116,8 @@ pub struct Tally {
     pub verdicts: [u64; 4],
     /// Accepted traces with listed records of which levels were expected.
     pub levels_met: u64,
+    /// Accepted traces with a message that was begun, or that finished later.
+    pub nonblocking: u64,
     pub kinds: BTreeMap<&'static str, u64>,
 }
 
@@ -114,6 +130,9 @@ impl Tally {
         self.numbers[answer.number as usize] += 1;
         self.verdicts[answer.verdict as usize] += 1;
         self.levels_met += u64::from(answer.listed > 0 && case.asked.levels == 1);
+        let blocking = |events: (i64, i64)| matches!(events, (-21, -51 | -52));
+        let all_block = |case: &Case| events_of_messages(&case.trace).into_iter().all(blocking);
+        self.nonblocking += u64::from(answer.matched > 0 && !all_block(case));
         *self.kinds.entry(case.kind).or_default() += 1;
     }
 
@@ -124,10 +143,11 @@ impl Tally {
             (format!("number {number}"), times, floor)
         });
         let verdicts = (1..=3).map(|verdict| (format!("verdict {verdict}"), self.verdicts[verdict], 500));
-        let levels_met = [("levels met".to_string(), self.levels_met, 500)];
+        let kinds_of_accepted = [("levels met", self.levels_met), ("nonblocking messages", self.nonblocking)]
+            .map(|(name, times)| (name.to_string(), times, 500));
         numbers
             .chain(verdicts)
-            .chain(levels_met)
+            .chain(kinds_of_accepted)
             .filter(|&(_, times, floor)| times < floor)
             .map(|(name, times, floor)| format!("{name} came up {times} times, {floor} are asked"))
             .collect()
@@ -145,6 +165,7 @@ impl fmt::Display for Tally {
         for verdict in 1..=3 {
             writeln!(out, "verdict {verdict:<7}{:>8}", self.verdicts[verdict])?;
         }
-        writeln!(out, "levels met     {:>8}", self.levels_met)
+        writeln!(out, "levels met     {:>8}", self.levels_met)?;
+        writeln!(out, "nonblocking    {:>8}", self.nonblocking)
     }
 }

@@ -42,11 +42,11 @@ fn what_follows_field_six_comes_after_the_processor() {
 
 #[test]
 fn events_not_handled() {
-    line("-3 -60 0.000000 0 0 0 junk", 8);
-    line("-3 -60 0.000000 99 9 7", 8);
-    line("-5 -60 0.000000 0 0 0", 0);
-    assert_eq!(number("-5 -60 0.000000 0 0 0\n", STRICT), (7, 1));
-    assert_eq!(number("-3 -60 0.000000 0 0 0\n", STRICT), (8, 1));
+    line("-3 -62 0.000000 0 0 0 junk", 8);
+    line("-3 -62 0.000000 99 9 7", 8);
+    line("-5 -62 0.000000 0 0 0", 0);
+    assert_eq!(number("-5 -62 0.000000 0 0 0\n", STRICT), (7, 1));
+    assert_eq!(number("-3 -62 0.000000 0 0 0\n", STRICT), (8, 1));
 }
 
 #[test]
@@ -137,7 +137,7 @@ fn the_line_of_record_2049() {
     assert_eq!(after("-3 -21 0.000001 0 0 0"), (10, 2_049));
     assert_eq!(after("0 0 0.000001 0 0 1"), (5, 2_049));
     assert_eq!(after("0 0 0.000001 64 0 0"), (9, 2_049));
-    assert_eq!(after("0 -60 0.000001 0 0 0"), (8, 2_049));
+    assert_eq!(after("0 -62 0.000001 0 0 0"), (8, 2_049));
     assert_eq!(after("-5 0 0.000000 0 0 0"), (0, 0));
 }
 

@@ -20,6 +20,9 @@
 //! # Ok::<(), cantuvesh::Refused>(())
 //! ```
 //!
+//! Messages may be blocking, or posted and finished later: a send is the entry of -21 or -27, a receive
+//! the exit of -51, -52, -58, -60 or -61.
+//!
 //! The call keeps nothing, allocates nothing, and may be made from several threads at once. It takes
 //! some 160,000 bytes of the calling thread's stack.
 

@@ -11,6 +11,7 @@ use std::num::NonZero;
 const TRACE_A: &[u8] = include_bytes!("../../../samples/a.picl");
 const TRACE_B: &[u8] = include_bytes!("../../../samples/b.picl");
 const SILENT: &[u8] = include_bytes!("../../../samples/silent.picl");
+const POSTED: &[u8] = include_bytes!("../../../samples/posted.picl");
 
 const STRICT: Asked = Asked { choice: Choice::Strict, levels: Levels::Off };
 const LENIENT: Asked = Asked { choice: Choice::Lenient, levels: Levels::Off };
@@ -82,6 +83,17 @@ fn without_messages_there_is_nothing_to_judge() {
 }
 
 #[test]
+fn messages_may_be_posted_and_finish_later() {
+    let (answer, times) = judged(POSTED, &Latencies::everywhere(5), STRICT, None);
+    let verdict = Verdict::Corrected;
+    assert_eq!(
+        answer,
+        Ok(Accepted { verdict, listed: 20, passed: 0, matched: 2, unreceived: 0, rounds: 3, written: 0 })
+    );
+    assert_eq!(times[16..], [95, 115, 115, 115]);
+}
+
+#[test]
 fn lenient_passes_over_what_strict_refuses() {
     let trace = b"-5 0 0.000000 0 0 0\n";
     assert_eq!(refused(trace), (Unlisted, 1));
@@ -117,7 +129,7 @@ fn refusals_of_the_whole_call() {
 fn refusals_of_a_line() {
     assert_eq!(refused(b"0 0 0.000000 0 0 0\nx\n"), (Form, 2));
     assert_eq!(refused(b"0 0 -0.000000 0 0 0\n"), (Timestamp, 1));
-    assert_eq!(refused(b"0 -60 0.000000 0 0 0\n"), (NotHandled, 1));
+    assert_eq!(refused(b"0 -56 0.000000 0 0 0\n"), (NotHandled, 1));
     assert_eq!(refused(b"0 0 0.000000 64 0 0\n"), (Place, 1));
     assert_eq!(refused(b"-3 -21 0.000000 0 0 0\n"), (MessageData, 1));
     assert_eq!(refused(b"0 0 0.000001 0 0 0\n0 0 0.000000 0 0 0\n"), (Order, 2));

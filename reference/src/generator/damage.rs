@@ -1,10 +1,17 @@
 //! Runs with something wrong: in a message, in a time, or in the text of one line.
 
 use super::random::Random;
-use super::record::{Data, Record, joined, trace_of};
+use super::record::{Data, RECEIVES, Record, joined, trace_of};
 use super::run::any_run;
 use super::{Draft, table};
 use crate::MAX_TIME;
+
+/// What a message's event may be changed to: others of messages, and both sides of every border between
+/// those listed, those not handled and those unlisted.
+const OTHER_EVENTS: [i64; 23] = [
+    -20, -21, -22, -26, -27, -28, -29, -30, -31, -32, -50, -51, -52, -53, -56, -57, -58, -59, -60, -61, -62,
+    -80, -81,
+];
 
 /// A run whose messages or times do not fit: lost, doubled, changed or exchanged records.
 pub fn in_messages(random: &mut Random) -> Draft {
@@ -20,7 +27,7 @@ fn spoil_record(random: &mut Random, records: &mut Vec<Record>) {
     let messages: Vec<usize> =
         (0..records.len()).filter(|&place| records[place].is_send() || records[place].is_receive()).collect();
     if messages.is_empty() {
-        let stray = Record::receive(-52, MAX_TIME, 0, 8, 1, random.between(0, 2));
+        let stray = Record::receive(random.pick(&RECEIVES), MAX_TIME, 0, 8, 1, random.between(0, 2));
         records.push(stray);
         return;
     }
@@ -34,16 +41,18 @@ fn spoil_record(random: &mut Random, records: &mut Vec<Record>) {
             records.swap(place, other);
         }
         8 => records[place].time -= random.pick(&[1, 1, 10, 1_000_000]),
-        _ => records[place].event = random.pick(&[-51, -52, -21, -50, -22, -53, -80, -81, -20]),
+        _ => records[place].event = random.pick(&OTHER_EVENTS),
     }
 }
 
 fn change_datum(random: &mut Random, record: &mut Record) {
     if let Data::Wholes(values) = &mut record.data {
-        match random.below(4) {
-            0 | 1 => values[0] = random.pick(&[0, 7, 9, 16, 999_999_999, -1]),
-            2 => values[1] += random.pick(&[-1, 1, 2]),
-            _ => values[2] = random.pick(&[0, 1, 2, 62, 63, 64, -1, values[2], 999_999_999]),
+        match random.below(9) {
+            0..4 => values[0] = random.pick(&[0, 7, 9, 16, 999_999_999, -1]),
+            4 | 5 => values[1] += random.pick(&[-1, 1, 2]),
+            6 | 7 => values[2] = random.pick(&[0, 1, 2, 62, 63, 64, -1, values[2], 999_999_999]),
+            // The process, which the report has as a fourth.
+            _ => values.push(0),
         }
     }
 }

@@ -1,5 +1,6 @@
 //! Traces at the limits: so many records, so many bytes, so high a time.
 
+use super::nonblocking::mix_events;
 use super::random::Random;
 use super::record::{Record, any_unlisted, joined, trace_of};
 use super::shape::{chain, clocks_off, many_types, neighbours};
@@ -11,6 +12,10 @@ use crate::{MAX_BYTES, MAX_LATENCY, MAX_RECORDS, MAX_TIME, PROCESSORS};
 pub fn records(random: &mut Random) -> Draft {
     let count = MAX_RECORDS + random.pick(&[0, 1, 1, 1, 2]) - random.pick(&[0, 0, 0, 1]);
     let mut latencies = flat_table(0);
+    let texts = |random: &mut Random, mut records: Vec<Record>| -> Vec<Vec<u8>> {
+        mix_events(random, &mut records);
+        records.iter().map(Record::text).collect()
+    };
     let mut lines: Vec<Vec<u8>> = match random.below(8) {
         0 => {
             let processors = random.place(9) + 2;
@@ -19,14 +24,17 @@ pub fn records(random: &mut Random) -> Draft {
                 clocks_off(&mut run, random.pick(&[100, 1_000_000]));
             }
             latencies = flat_table(random.pick(&[0, 1, 20]));
-            run.iter().map(|record| record.text()).collect()
+            texts(random, run)
         }
-        1 => many_types(count, 0..random.between(1, 200)).iter().map(|record| record.text()).collect(),
+        1 => {
+            let kinds = 0..random.between(1, 200);
+            texts(random, many_types(count, kinds))
+        }
         2 => {
             if random.chance(10) {
                 latencies = flat_table(1);
             }
-            chain(count, 10).iter().map(|record| record.text()).collect()
+            texts(random, chain(count, 10))
         }
         _ => {
             // Ten marks, one of each processor, at the start or at the end; or none.
@@ -125,9 +133,10 @@ pub fn times(random: &mut Random) -> Draft {
     let sent = MAX_TIME - i64::from(left);
     let shown = if sender == receiver { sent } else { random.pick(&[0, -MAX_TIME, sent, MAX_TIME]) };
     let mut records = vec![
-        Record::send(sent, sender as i64, 8, 1, receiver as i64),
+        Record::send(-21, sent, sender as i64, 8, 1, receiver as i64),
         Record::receive(-52, shown, receiver as i64, 8, 1, sender as i64),
     ];
+    mix_events(random, &mut records);
     if sender != receiver && random.chance(30) {
         records.swap(0, 1);
     }

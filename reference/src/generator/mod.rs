@@ -1,15 +1,17 @@
-//! Traces, tables and calls from a seed: the same seed gives the same case for ever.
+//! Traces, tables and calls from a seed: the same seed gives the same case, until the generator changes.
 //!
 //! [`run`] makes sound runs and looks at them through wrong clocks, [`shape`] makes chains, rings
-//! and what else has a known shape, [`damage`] spoils them, [`near`] and [`soup`] put lines together
-//! from good and bad parts, [`limit`] goes to the ends of every size and number, [`level`] expects
-//! tracing levels and marks them, and [`call`] is the rest of a call.
+//! and what else has a known shape, [`nonblocking`] gives messages of both to calls that do not wait,
+//! [`damage`] spoils them, [`near`] and [`soup`] put lines together from good and bad parts, [`limit`]
+//! goes to the ends of every size and number, [`level`] expects tracing levels and marks them, and
+//! [`call`] is the rest of a call. The benchmark's traces are in [`workload`], and stay as they are.
 
 mod call;
 mod damage;
 mod level;
 mod limit;
 mod near;
+mod nonblocking;
 pub mod random;
 pub mod record;
 mod run;

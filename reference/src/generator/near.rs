@@ -5,10 +5,14 @@ use super::record::joined;
 use super::{Draft, flat_table};
 use crate::form::write_time;
 
-/// Record type and event type.
-const STARTS: [&str; 18] = [
-    "0 0", "-2 999999999", "-3 -21", "-3 -21", "-4 -51", "-4 -52", "-4 -52", "-4 -21", "-2 -21", "-3 -51",
-    "0 -52", "-2 -904", "-5 0", "1 -21", "-5 -60", "-3 -60", "-2 -81", "-4 -905",
+/// Record type and event type: sends and receives, other records of their events, those not handled beside
+/// them, unlisted ones and the rest.
+const STARTS: [&str; 44] = [
+    "-3 -21", "-3 -21", "-3 -27", "-3 -27", "-4 -51", "-4 -52", "-4 -52", "-4 -58", "-4 -60", "-4 -60",
+    "-4 -61", "-4 -21", "-2 -21", "-3 -51", "0 -52", "-4 -27", "-2 -27", "-3 -28", "-3 -29", "-4 -30",
+    "-3 -31", "-3 -57", "-4 -57", "-3 -58", "-4 -59", "-3 -60", "-2 -60", "0 -60", "0 -61", "-3 -26",
+    "-3 -32", "-4 -53", "-4 -56", "-4 -62", "-2 -80", "-5 0", "1 -21", "-5 -60", "-5 -62", "-2 -81",
+    "-4 -905", "0 0", "-2 999999999", "-2 -904",
 ];
 
 /// Processor, process, data count and what follows it.

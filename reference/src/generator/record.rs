@@ -4,6 +4,13 @@ use super::random::Random;
 use crate::MAX_TIME;
 use crate::form::write_time;
 
+/// The events whose entry is a send.
+pub const SENDS: [i64; 2] = [-21, -27];
+/// The events whose exit is a receive.
+pub const RECEIVES: [i64; 5] = [-51, -52, -58, -60, -61];
+/// All that are listed of the events of messages.
+pub const MESSAGE_EVENTS: [i64; 13] = [-21, -27, -28, -29, -30, -31, -51, -52, -57, -58, -59, -60, -61];
+
 #[derive(Clone, Debug)]
 pub struct Record {
     pub record_type: i64,
@@ -28,9 +35,9 @@ impl Record {
         Record { record_type, event, time, processor, process: 0, data: Data::None }
     }
 
-    pub fn send(time: i64, processor: i64, length: i64, kind: i64, to: i64) -> Record {
+    pub fn send(event: i64, time: i64, processor: i64, length: i64, kind: i64, to: i64) -> Record {
         let data = Data::Wholes(vec![length, kind, to]);
-        Record { data, ..Record::local(-3, -21, time, processor) }
+        Record { data, ..Record::local(-3, event, time, processor) }
     }
 
     pub fn receive(event: i64, time: i64, processor: i64, length: i64, kind: i64, from: i64) -> Record {
@@ -39,11 +46,16 @@ impl Record {
     }
 
     pub fn is_send(&self) -> bool {
-        (self.record_type, self.event) == (-3, -21)
+        self.record_type == -3 && SENDS.contains(&self.event)
     }
 
     pub fn is_receive(&self) -> bool {
-        self.record_type == -4 && matches!(self.event, -51 | -52)
+        self.record_type == -4 && RECEIVES.contains(&self.event)
+    }
+
+    /// A message that is begun, or that finishes later.
+    pub fn is_nonblocking(&self) -> bool {
+        (self.is_send() || self.is_receive()) && !matches!(self.event, -21 | -51 | -52)
     }
 
     /// The record's line without its LF.
@@ -92,20 +104,36 @@ pub fn trace_of(records: &[Record]) -> Vec<u8> {
 
 /// A record of one of the listed events that is no message.
 pub fn any_local(random: &mut Random, time: i64, processor: i64) -> Record {
-    const EVENTS: [i64; 34] = [
-        0, 1, 7, 50, 123_456, 999_999_999, -11, -12, -21, -51, -52, -201, -202, -221, -251, -401, -402, -501,
-        -502, -503, -601, -602, -603, -901, -902, -903, -904, -911, -912, -913, -914, 0, 1, 2,
+    const OTHER_EVENTS: [i64; 31] = [
+        0, 1, 7, 50, 123_456, 999_999_999, -11, -12, -201, -202, -221, -251, -401, -402, -501, -502, -503,
+        -601, -602, -603, -901, -902, -903, -904, -911, -912, -913, -914, 0, 1, 2,
     ];
-    let event = random.pick(&EVENTS);
+    if random.chance(70) {
+        let record_type = random.pick(&[-2, -3, -4, 0]);
+        let event = random.pick(&OTHER_EVENTS);
+        return Record { data: any_data(random), ..Record::local(record_type, event, time, processor) };
+    }
+    let event = random.pick(&MESSAGE_EVENTS);
     let record_type = match event {
-        -21 => random.pick(&[-2, -4, 0]),
-        -51 | -52 => random.pick(&[-2, -3, 0]),
+        _ if SENDS.contains(&event) => random.pick(&[-2, -4, 0]),
+        _ if RECEIVES.contains(&event) => random.pick(&[-2, -3, 0]),
         _ => random.pick(&[-2, -3, -4, 0]),
     };
-    Record { data: any_data(random), ..Record::local(record_type, event, time, processor) }
+    // Often what would be a message's, so that who takes it for one goes wrong.
+    let data = if random.chance(50) { message_data(random) } else { any_data(random) };
+    Record { data, ..Record::local(record_type, event, time, processor) }
 }
 
-fn any_data(random: &mut Random) -> Data {
+/// Length, type and processor, and now and then the process that the report has behind them.
+fn message_data(random: &mut Random) -> Data {
+    let mut values = vec![random.pick(&[0, 1, 8, 8]), random.between(0, 2), random.between(0, 3)];
+    if random.chance(25) {
+        values.push(0);
+    }
+    Data::Wholes(values)
+}
+
+pub fn any_data(random: &mut Random) -> Data {
     let count = match random.below(10) {
         0..6 => return Data::None,
         6..9 => random.between(1, 4),

@@ -1,5 +1,6 @@
 //! Runs of a machine: sound by their true times, then seen through clocks of their own.
 
+use super::nonblocking::{Mixture, with_requests};
 use super::random::Random;
 use super::record::{Record, any_local, any_unlisted, trace_of};
 use super::{Draft, table};
@@ -63,7 +64,8 @@ pub fn any_run(random: &mut Random, table: &[u32], start: i64) -> Vec<Record> {
         _ => random.below(1_500),
     };
     let gap = random.pick(&[0, 1, 10, 1_000, 100_000]);
-    let true_run = simulate(random, table, start, processors, steps, gap);
+    let messages_and_more = simulate(random, table, start, processors, steps, gap);
+    let true_run = with_requests(random, messages_and_more);
     let shown = through_clocks(random, true_run);
     let mut filed = in_file_order(random, shown);
     if random.chance(30) {
@@ -89,6 +91,7 @@ fn simulate(
     let shift = if random.chance(30) { PROCESSORS - processors } else { 0 };
     let kinds = random.pick(&[1, 1, 2, 3, 8]);
     let strange_kinds = random.chance(10);
+    let mixture = Mixture::any(random);
     let mut now = [start; PROCESSORS];
     let mut flying: Vec<VecDeque<Flying>> = Vec::new();
     let mut records = Vec::new();
@@ -105,7 +108,8 @@ fn simulate(
                     kind = random.pick(&[-1, 999_999_999, -999_999_999, 0, 1]);
                 }
                 let length = random.pick(&[0, 1, 8, 8, 8, 999_999_999]);
-                records.push(Record::send(now[here], at, length, kind, to as i64));
+                let event = mixture.send(random);
+                records.push(Record::send(event, now[here], at, length, kind, to as i64));
                 let arrival = now[here] + i64::from(table[PROCESSORS * here + to]);
                 let message = Flying { from: here, to, kind, length, arrival };
                 let same = |queue: &VecDeque<Flying>| {
@@ -115,14 +119,14 @@ fn simulate(
                     Some(queue) => queue.push_back(message),
                     None => flying.push(VecDeque::from([message])),
                 }
-                if random.chance(30) {
+                if event == -21 && random.chance(30) {
                     now[here] += i64::from(random.up_to(gap));
                     records.push(Record::local(-4, -21, now[here], at));
                 }
             }
             4..8 if !waiting.is_empty() => {
-                let event = random.pick(&[-51, -52]);
-                if random.chance(20) {
+                let event = mixture.receive(random);
+                if matches!(event, -51 | -52) && random.chance(20) {
                     records.push(Record::local(-3, event, now[here], at));
                 }
                 let queue = random.pick(&waiting);

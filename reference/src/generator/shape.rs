@@ -1,5 +1,6 @@
 //! Traces of a known shape: chains, rings, neighbours, many message types on one pair.
 
+use super::nonblocking::mix_events;
 use super::random::Random;
 use super::record::{Record, trace_of};
 use super::{Draft, flat_table, table};
@@ -14,7 +15,7 @@ pub fn chain(records: usize, processors: usize) -> Vec<Record> {
         .map(|place| {
             let here = (place + 1) / 2 % processors;
             if place % 2 == 0 {
-                Record::send(0, here, 8, 1, (here + 1) % processors)
+                Record::send(-21, 0, here, 8, 1, (here + 1) % processors)
             } else {
                 Record::receive(-52, 0, here, 8, 1, (here + processors - 1) % processors)
             }
@@ -29,8 +30,8 @@ pub fn neighbours(records: usize, processors: usize, latency: i64) -> Vec<Record
     let mut time = 0;
     while run.len() < records {
         for here in 0..=last {
-            run.extend((here > 0).then(|| Record::send(time, here, 8, 1, here - 1)));
-            run.extend((here < last).then(|| Record::send(time + 1, here, 8, 1, here + 1)));
+            run.extend((here > 0).then(|| Record::send(-21, time, here, 8, 1, here - 1)));
+            run.extend((here < last).then(|| Record::send(-21, time + 1, here, 8, 1, here + 1)));
         }
         let arrival = time + 1 + latency;
         for here in 0..=last {
@@ -57,7 +58,7 @@ pub fn clocks_off(records: &mut [Record], ahead: i64) {
 pub fn many_types(records: usize, kinds: Range<i64>) -> Vec<Record> {
     let messages = records as i64 / 2;
     let kind = |message: i64| kinds.start + message % (kinds.end - kinds.start);
-    let sends = (0..messages).map(|place| Record::send(place, 0, 8, kind(place), 1));
+    let sends = (0..messages).map(|place| Record::send(-21, place, 0, 8, kind(place), 1));
     let receives = (0..messages)
         .map(|place| Record::receive(-52, place + messages, 1, 8, kind(messages - 1 - place), 0));
     sends.chain(receives).collect()
@@ -89,6 +90,7 @@ pub(super) fn any_chain(random: &mut Random) -> Draft {
         }
         records.sort_by_key(|record| (record.processor, record.time));
     }
+    mix_events(random, &mut records);
     let latencies = if random.chance(50) { table(random) } else { flat_table(random.up_to(5)) };
     Draft { kind: "chain", trace: trace_of(&records), latencies }
 }
@@ -109,13 +111,13 @@ pub(super) fn any_ring(random: &mut Random) -> Draft {
         let time = i64::from(random.up_to(spread));
         let here = member(place);
         let kind = random.pick(&[1, 1, 1, 2]);
-        records.push(Record::receive(random.pick(&[-51, -52]), time, here, 8, 1, member(place + length - 1)));
+        records.push(Record::receive(-52, time, here, 8, 1, member(place + length - 1)));
         if random.chance(30) {
             records.push(Record::local(-2, 7, time, here));
         }
-        records.push(Record::send(time + i64::from(random.up_to(3)), here, 8, 1, member(place + 1)));
+        records.push(Record::send(-21, time + i64::from(random.up_to(3)), here, 8, 1, member(place + 1)));
         if kind == 2 {
-            records.push(Record::send(time + 10, here, 8, kind, member(place + 1)));
+            records.push(Record::send(-21, time + 10, here, 8, kind, member(place + 1)));
         }
     }
     if random.chance(30) {
@@ -123,6 +125,7 @@ pub(super) fn any_ring(random: &mut Random) -> Draft {
         // What was one processor's run may have been cut in two: put each in order again.
         records.sort_by_key(|record| (record.processor, record.time));
     }
+    mix_events(random, &mut records);
     let mut latencies = flat_table(0);
     if random.chance(30) {
         let place = random.place(length);

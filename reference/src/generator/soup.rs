@@ -1,18 +1,19 @@
 //! Lines put together field by field from good, awkward and bad ones, and plain noise.
 
 use super::random::Random;
-use super::record::joined;
+use super::record::{MESSAGE_EVENTS, RECEIVES, SENDS, joined};
 use super::{Draft, flat_table, table};
 
 const RECORD_TYPES: [&str; 4] = ["-2", "-3", "-4", "0"];
 const UNLISTED_TYPES: [&str; 9] = ["-5", "-1", "1", "2", "-101", "10", "-999999999", "999999999", "-20"];
 
 /// The two sides of every border in the table of events.
-const EVENTS: [i64; 68] = [
-    999_999_999, 1, 0, -1, -10, -11, -12, -13, -20, -21, -22, -23, -49, -50, -51, -52, -53, -54, -79, -80,
-    -81, -82, -200, -201, -202, -203, -220, -221, -222, -250, -251, -252, -400, -401, -402, -403, -500, -501,
-    -502, -503, -504, -600, -601, -602, -603, -604, -900, -901, -902, -903, -904, -905, -910, -911, -912,
-    -913, -914, -915, -1000, -1001, -999_999_999, -21, -21, -51, -52, -52, 5, 42,
+const EVENTS: [i64; 82] = [
+    999_999_999, 1, 0, -1, -10, -11, -12, -13, -20, -21, -22, -23, -26, -27, -28, -29, -30, -31, -32, -49,
+    -50, -51, -52, -53, -54, -56, -57, -58, -59, -60, -61, -62, -79, -80, -81, -82, -200, -201, -202, -203,
+    -220, -221, -222, -250, -251, -252, -400, -401, -402, -403, -500, -501, -502, -503, -504, -600, -601,
+    -602, -603, -604, -900, -901, -902, -903, -904, -905, -910, -911, -912, -913, -914, -915, -1000, -1001,
+    -999_999_999, -21, -21, -51, -52, -52, 5, 42,
 ];
 
 const BAD_WHOLES: [&str; 17] = [
@@ -71,7 +72,8 @@ fn line(random: &mut Random, wrong: u64, clock: &mut i64) -> Vec<u8> {
         0 => random.between(-1010, -1),
         1 => random.between(-90, -1),
         2..5 => random.pick(&EVENTS),
-        5..7 => random.pick(&[-21, -51, -52]),
+        5 => random.pick(&SENDS),
+        6 => random.pick(&RECEIVES),
         _ => random.between(0, 99),
     };
     *clock += random.between(0, 3);
@@ -87,7 +89,7 @@ fn line(random: &mut Random, wrong: u64, clock: &mut i64) -> Vec<u8> {
     fields.push(whole(random, wrong, processor.to_string()));
     let process = if random.chance(2 * wrong) { random.pick(&[1, -1, 999_999_999, 2]) } else { 0 };
     fields.push(whole(random, wrong, process.to_string()));
-    fields.extend(data(random, wrong, matches!(event, -21 | -51 | -52)));
+    fields.extend(data(random, wrong, MESSAGE_EVENTS.contains(&event)));
 
     if random.chance(wrong) {
         let place = random.place(fields.len());
@@ -125,10 +127,11 @@ fn micros(time: i64) -> String {
     format!("{sign}0.{:06}", time.abs())
 }
 
-/// The data count, and what follows it.
+/// The data count, and what follows it: mostly what a message has where the event is one of messages.
 fn data(random: &mut Random, wrong: u64, message: bool) -> Vec<String> {
     let mut count = match random.below(10) {
-        0..9 if message => 3,
+        0..8 if message => 3,
+        8 if message => random.pick(&[1, 2, 4, 4]),
         0..5 => 0,
         5..9 => random.between(1, 4),
         _ => random.pick(&[15, 16]),

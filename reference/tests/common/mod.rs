@@ -23,6 +23,12 @@ pub const TRACE_B: &str = "\
 pub const STRICT: Asked = Asked::with_levels_off(1);
 pub const LENIENT: Asked = Asked::with_levels_off(2);
 
+/// Lines as a trace; T is the time 0.000000.
+#[allow(dead_code)]
+pub fn trace(lines: &[&str]) -> String {
+    lines.iter().map(|line| line.replace('T', "0.000000") + "\n").collect()
+}
+
 /// The answer, and the places of the times that were touched.
 pub fn judged(trace: impl AsRef<[u8]>, latencies: &[u32], asked: Asked) -> (Answer, Vec<i64>) {
     let mut times = vec![i64::MIN; MAX_RECORDS];
