@@ -1,10 +1,3 @@
--- The laws that the engine's proofs cite.
-pub mod Tests
-pub mod Waiting
-pub mod Rising
-pub mod Filling
-pub mod Turning
-pub mod Going
-pub mod Stepping
-pub mod Lengths
+-- The laws of the answer.
+pub mod Clearing
 pub mod Outcomes

@@ -1,7 +1,7 @@
 -- The outcome of a call: what each of its ways out comes to, that there is only one, and what it tells a caller.
 use Prim.Native.Nat.{ℕ}
 use native.Mathlib.Omega.{arith}
-use mathlib.Core.Path.{_≡_}
+use mathlib.Core.Path.{_≡_, refl, sym, _∙_}
 use mathlib.Core.List.{List}
 use mathlib.Core.Bool.{Bool, true, false, cond}
 use lib.ListN.{length, replicate}
@@ -10,36 +10,70 @@ use Rattle.paper.specs.Clock as paper
 use Rattle.paper.specs.Clock.{Waits, settled, impossible}
 use Rattle.clock.specs.declared.Settled.{Settled}
 use Rattle.clock.specs.declared.Settled.the-variants.{Rounds, Impossible, Misfit}
-use Rattle.clock.specs.declared.Run.the-variants.{At, Never}
-use Rattle.clock.specs.Promise.{waitsOf, outcome, allAre, answered, outcomeOf}
-use Rattle.clock.specs.Inner.{Sized, Ended}
-use Rattle.clock.proofs.Lengths.{allFit, fitting}
+use Rattle.engine.specs.declared.Run.{Run}
+use Rattle.engine.specs.declared.Run.the-variants as Run
+use Rattle.engine.specs.Promise.{waitsOf, allAre, Ended, RunInto}
+use Rattle.engine.specs.Inner.{Sized}
+use Rattle.engine.proofs.Lengths.{allFit, fits, fitting}
+use Rattle.clock.specs.Promise.{outcome, answered, outcomeOf}
 
--- ---- the ways out
+-- ---- how the rounds ended
 
 module _ (n : ℕ) (w : Waits) {times spare : List ℤ} where
-  pub answered-rounds : (k : ℕ) → Ended w (At k) times spare → outcome (Rounds k) times spare ≡ answered n (paper.settle w)
+  answered-rounds : (k : ℕ) → Ended w (Run.At k) times spare → outcome (Rounds k) times spare ≡ answered n (paper.settle w)
   unfolding answered Ended
   answered-rounds k ended = rw (ended .0, ended .1)
 
   -- whatever the rounds left was cleared
-  pub answered-never : (times′ spare′ : List ℤ) → Ended w Never times′ spare′ → length times′ ≡ n → length spare′ ≡ n
-      → times ≡ replicate (length times′) (pos 0) → spare ≡ replicate (length spare′) (pos 0)
+  answered-never : (times′ spare′ : List ℤ) → Ended w Run.Never times′ spare′ → length times′ ≡ n → length spare′ ≡ n
+      → times ≡ replicate (length times′) (pos 0)
+      → spare ≡ replicate (length spare′) (pos 0)
       → outcome Impossible times spare ≡ answered n (paper.settle w)
   unfolding answered Ended
   answered-never times′ spare′ ended l m t s = rw (ended, t, s, l, m)
 
-module _ (before send latency : List ℕ) (times spare : List ℤ) where
-  pub misfit : allFit before send latency times spare ≡ false → outcome Misfit times spare ≡ outcomeOf before send latency times spare
-  unfolding outcomeOf
-  misfit e = rw e
+-- ---- the ways out
 
+module _ (before send latency : List ℕ) (times spare : List ℤ) where
   -- slices that fit leave the paper's answer
-  pub outcome-fit : allFit before send latency times spare ≡ true
+  outcome-fit : allFit before send latency times spare ≡ true
       → answered (length times) (paper.settle (waitsOf times before send latency)) ≡ outcomeOf before send latency times spare
   unfolding outcomeOf
   outcome-fit e = rw e
 
+  module _ {r : Run} {times′ spare′ : List ℤ}
+      (into : RunInto (allFit before send latency times spare) (waitsOf times before send latency) times spare r times′ spare′) where
+    pub settled-rounds : (k : ℕ) → r ≡ Run.At k → outcome (Rounds k) times′ spare′ ≡ outcomeOf before send latency times spare
+    settled-rounds k e = go (allFit before send latency times spare) refl
+      where
+        go : (b : Bool) → allFit before send latency times spare ≡ b → outcome (Rounds k) times′ spare′ ≡ outcomeOf before send latency times spare
+        go true f = answered-rounds (length times) (waitsOf times before send latency) k (rw e at (into .ends f)) ∙ outcome-fit f
+        go false f = let z : Run.At k ≡ Run.Misfit = sym e ∙ into .misfits f .0 in cc
+
+    pub settled-never : {t s : List ℤ} → r ≡ Run.Never → length times′ ≡ length times → length spare′ ≡ length spare
+        → t ≡ replicate (length times′) (pos 0)
+        → s ≡ replicate (length spare′) (pos 0)
+        → outcome Impossible t s ≡ outcomeOf before send latency times spare
+    settled-never {t} {s} e l m c d = go (allFit before send latency times spare) refl
+      where
+        go : (b : Bool) → allFit before send latency times spare ≡ b → outcome Impossible t s ≡ outcomeOf before send latency times spare
+        go true f =
+            answered-never (length times) (waitsOf times before send latency) times′ spare′ (rw e at (into .ends f)) l
+            (m ∙ fits before send latency times spare f .spares) c d
+            ∙ outcome-fit f
+        go false f = let z : Run.Never ≡ Run.Misfit = sym e ∙ into .misfits f .0 in cc
+
+    pub settled-misfit : r ≡ Run.Misfit → outcome Misfit times′ spare′ ≡ outcomeOf before send latency times spare
+    unfolding outcomeOf Ended
+    settled-misfit e = go (allFit before send latency times spare) refl
+      where
+        go : (b : Bool) → allFit before send latency times spare ≡ b → outcome Misfit times′ spare′ ≡ outcomeOf before send latency times spare
+        go true f = absurd (rw e at (into .ends f))
+        go false f = let (x, p, q) = into .misfits f in rw (f, p, q)
+
+-- ---- one answer
+
+module _ (before send latency : List ℕ) (times spare : List ℤ) where
   -- any two outcomes that the promise allows for the same slices are the same, in the answer and in what both slices hold
   pub settle-one-answer : (r r′ : Settled) (t t′ s s′ : List ℤ) → outcome r t s ≡ outcomeOf before send latency times spare
       → outcome r′ t′ s′ ≡ outcomeOf before send latency times spare → (r ≡ r′) × (t ≡ t′) × (s ≡ s′)

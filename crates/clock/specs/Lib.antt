@@ -1,3 +1,2 @@
--- What the engine of the clock condition promises, and what its own functions tell each other.
+-- What a call leaves.
 pub mod Promise
-pub mod Inner

@@ -1,8 +1,8 @@
--- The six fields: a count, and a line with fewer than six.
+-- The six fields, and a line with fewer than six.
 use Prim.Native.Nat.{ℕ, zero, suc, _+_, _-_, _≤_, _<_}
-use mathlib.Core.Path.{_≡_, refl, sym, ap, _∙_}
-use mathlib.Core.List.{List, [], _∷_}
-use mathlib.Core.Bool.{Bool, true, false, cond, _&&_}
+use mathlib.Core.Path.{_≡_, refl, ap}
+use mathlib.Core.List.{List}
+use mathlib.Core.Bool.{Bool, true, false, cond}
 use mathlib.Core.Option.{Option, none, some}
 use native.Mathlib.Omega.{arith}
 use native.Mathlib.Numerals.{add-one}
@@ -10,59 +10,16 @@ use native.Mathlib.Nat.{add-suc}
 use borrow.Author.Tests.{lt-ltb, le-ltb}
 use lib.ListN.{length, drop, length-drop}
 use lib.Seq.{drop-drop}
-use lib.IntN.{ℤ, pos, negsuc, natAbs}
-use Rattle.paper.specs.Tests.{upTo}
+use lib.IntN.{ℤ, natAbs}
 use Rattle.paper.specs.Forms.{wholeOf, timeOf}
-use Rattle.paper.specs.Line.{field, after, goesOn, rest, fieldsAbove, First, nothing, first, onField, onFirst, firstOf, countOf, Begun, bad, six, placeOf, sixOf, headOf}
+use Rattle.paper.specs.Line.{field, after, goesOn, rest, fieldsAbove, First, nothing, first, onField, onFirst, firstOf, countOf, bad, six, placeOf, sixOf, headOf}
 use Rattle.paper.specs.declared.Field.{Field}
 use Rattle.paper.specs.declared.Field.the-variants.{Good, Bad}
 use Rattle.paper.specs.declared.Fault.the-variants as Fault
 use Rattle.bytes.specs.Bytes.{indexOf, slice}
-use Rattle.fields.specs.Cursor.{restAt, badStamp}
-use Rattle.fields.proofs.Cursors.{at-start, searched}
-use Rattle.signed.specs.Naturals.{naturalOf}
-use Rattle.signed.specs.declared.Natural.the-variants.{Of, Outside}
-
--- ---- the number of data fields
-
--- a whole number, held to 0 to 999
-count-first : (f : Option (List ℕ)) → firstOf countOf f ≡ onFirst (firstOf wholeOf f) nothing (λ v g. cond (upTo 999 v) (first v g) nothing)
-unfolding firstOf countOf
-count-first none = refl
-count-first (some l) = go (wholeOf (field l))
-  where
-    held : (v : ℤ) (b : Bool) → onField (cond b (Good v) Bad) nothing (λ u. first u (rest l)) ≡ cond b (first v (rest l)) nothing
-    held v true = refl
-    held v false = refl
-
-    go : (x : Field) → onField (onField x Bad (λ v. cond (upTo 999 v) (Good v) Bad)) nothing (λ u. first u (rest l))
-        ≡ onFirst (onField x nothing (λ v. first v (rest l))) nothing (λ v g. cond (upTo 999 v) (first v g) nothing)
-    go (Good v) = held v (upTo 999 v)
-    go Bad = refl
-
-pub no-count : (f : Option (List ℕ)) → firstOf wholeOf f ≡ nothing → nothing ≡ firstOf countOf f
-no-count f e = rw (count-first f, e)
-
-module _ (f g : Option (List ℕ)) where
-  pub count-outside : {u v : ℤ} → u ≡ v → firstOf wholeOf f ≡ first v g → naturalOf 999 u ≡ Outside → nothing ≡ firstOf countOf f
-  unfolding naturalOf
-  count-outside {u} {v} p e h = rw (count-first f, e) (go (upTo 999 v) (rw p at h))
-    where
-      go : (b : Bool) → cond b (Of (natAbs v)) Outside ≡ Outside → nothing ≡ cond b (first v g) nothing
-      go true h = cc
-      go false h = refl
-
-  pub count-good : {u v : ℤ} (n : ℕ) → u ≡ v → firstOf wholeOf f ≡ first v g → naturalOf 999 u ≡ Of n → first (pos n) g ≡ firstOf countOf f
-  unfolding naturalOf
-  count-good {u} {v} n p e h = rw (count-first f, e) (go v (rw p at h))
-    where
-      held : (m : ℕ) (b : Bool) → cond b (Of m) Outside ≡ Of n → first (pos n) g ≡ cond b (first (pos m) g) nothing
-      held m true h = let q : m ≡ n = cc in rw q
-      held m false h = cc
-
-      go : (v : ℤ) → cond (upTo 999 v) (Of (natAbs v)) Outside ≡ Of n → first (pos n) g ≡ cond (upTo 999 v) (first v g) nothing
-      go (pos m) h = held m (upTo 999 (pos m)) h
-      go (negsuc m) h = cc
+use Rattle.field.specs.Cursor.{restAt}
+use Rattle.fields.specs.Cursor.{badStamp}
+use Rattle.field.proofs.Cursors.{at-start, searched}
 
 -- ---- fewer than six
 

@@ -1,4 +1,3 @@
-pub mod Cursors
+-- The laws of the six fields.
 pub mod Heads
-pub mod Datas
 pub mod Outcome

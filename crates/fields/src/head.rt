@@ -1,12 +1,12 @@
 // "The six fields left to right".
 ghost use mathlib.Core.Path.{_≡_};
 ghost use Rattle.paper.specs.Line.{headOf, placeOf, fieldsAbove};
-ghost use Rattle.fields.specs.Cursor.{restAt, begunOf, begunNext, Tells, badStamp};
-use crate::Counted;
-use crate::Form;
-use crate::Got;
+ghost use Rattle.field.specs.Cursor.{restAt, Tells};
+ghost use Rattle.fields.specs.Cursor.{begunOf, begunNext, badStamp};
 use crate::Opening;
-use crate::take;
+use field::Counted;
+use field::Form;
+use field::Got;
 use paper::Fault;
 use paper::Head;
 
@@ -14,13 +14,13 @@ use paper::Head;
 fn place(l: &[u8], at: usize, kind: i64, event: i64, time: i64) -> Opening
     ensures { λ r. ⌜ Tells (now (l .entry)) (begunOf (now (l .entry)) r) (placeOf kind event time (restAt (now (l .entry)) at)) (begunNext r) ⌝ }
 {
-    let Got::Value(processor, p4) = take::value_at(l, at, Form::Whole) else {
+    let Got::Value(processor, p4) = field::value_at(l, at, Form::Whole) else {
         return Opening::Bad(Fault::Form);
     };
-    let Got::Value(process, p5) = take::value_at(l, p4, Form::Whole) else {
+    let Got::Value(process, p5) = field::value_at(l, p4, Form::Whole) else {
         return Opening::Bad(Fault::Form);
     };
-    let Counted::Of(count, p6) = take::count_at(l, p5) else {
+    let Counted::Of(count, p6) = field::count_at(l, p5) else {
         return Opening::Bad(Fault::Form);
     };
     Opening::Six(
@@ -58,13 +58,13 @@ fn fields_above(l: &[u8], n: usize) -> bool
 pub(crate) fn six(l: &[u8]) -> Opening
     ensures { λ r. ⌜ Tells (now (l .entry)) (begunOf (now (l .entry)) r) (headOf (now (l .entry))) (begunNext r) ⌝ }
 {
-    let Got::Value(kind, p1) = take::value_at(l, 0, Form::Whole) else {
+    let Got::Value(kind, p1) = field::value_at(l, 0, Form::Whole) else {
         return Opening::Bad(Fault::Form);
     };
-    let Got::Value(event, p2) = take::value_at(l, p1, Form::Whole) else {
+    let Got::Value(event, p2) = field::value_at(l, p1, Form::Whole) else {
         return Opening::Bad(Fault::Form);
     };
-    let Got::Value(time, p3) = take::value_at(l, p2, Form::Time) else {
+    let Got::Value(time, p3) = field::value_at(l, p2, Form::Time) else {
         return bad_stamp(l);
     };
     place(l, p3, kind, event, time)

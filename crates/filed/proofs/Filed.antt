@@ -1,45 +1,26 @@
--- What is said, by the tests told; and that what the system told leaves one thing to say.
+-- What is said, by what was decided; and that what the system told leaves one thing to say.
 use Prim.Native.Nat.{ℕ}
-use mathlib.Core.Path.{_≡_, sym, _∙_}
-use mathlib.Core.Bool.{Bool, true, false, not}
+use native.Mathlib.Omega.{arith}
+use mathlib.Core.Path.{_≡_, refl, sym, _∙_}
+use mathlib.Core.Bool.{Bool, true, false}
 use mathlib.Core.List.{List}
 use mathlib.Core.Option.{Option}
 use lib.ListN.{length}
 use lib.Dec.{eqb}
-use borrow.Author.Tests.{not-true, not-false}
 use Rattle.paper.specs.declared.Answer.{Answer}
 use Rattle.paper.specs.declared.Asked.{Asked}
 use Rattle.paper.specs.declared.Fault.the-variants as Fault
 use Rattle.answer.specs.Answers.{refusal}
 use Rattle.table.specs.Table.{latenciesOf, Decoded}
 use Rattle.report.specs.declared.Said.{Said}
-use Rattle.report.specs.declared.Said.the-variants.{Answered, CannotRead, CannotWrite}
+use Rattle.report.specs.declared.Said.the-variants.{Answered, CannotRead}
 use Rattle.files.specs.File.{fileOf}
-use Rattle.filed.specs.Filed.{storing, endOf, answerOf, onLatencies, onTable, onFiles, ByStored, ByFiles}
+use Rattle.decided.specs.declared.Readiness.{Readiness}
+use Rattle.decided.specs.declared.Readiness.the-variants.{Both, Ended}
+use Rattle.decided.specs.Decided.{readyOf, storing, endOf}
+use Rattle.filed.specs.Filed.{answerOf, onLatencies, onTable, onFiles, ByStored, ByFiles}
 
--- ---- the end
-
-module _ (wanted : Bool) (answer : Answer) where
-  pub unwanted : not wanted ≡ true → false ≡ storing wanted answer
-  unfolding storing
-  unwanted e = rw (not-true wanted e)
-
-  pub wanted-is : not wanted ≡ false → eqb (answer .number) 0 ≡ storing wanted answer
-  unfolding storing
-  wanted-is e = rw (not-false wanted e)
-
-module _ (storing stored : Bool) (answer : Answer) where
-  pub nothing-to-store : not storing ≡ true → Answered answer ≡ endOf storing answer stored
-  unfolding endOf
-  nothing-to-store e = rw (not-true storing e)
-
-  pub is-stored : not storing ≡ false → stored ≡ true → Answered answer ≡ endOf storing answer stored
-  unfolding endOf
-  is-stored e f = rw (not-false storing e, f)
-
-  pub not-stored : not storing ≡ false → stored ≡ false → CannotWrite ≡ endOf storing answer stored
-  unfolding endOf
-  not-stored e f = rw (not-false storing e, f)
+-- ---- the judgement
 
 module _ (asked : Asked) (wanted : Bool) (trace : List ℕ) where
   pub concludes : (latencies : List ℕ) {answer : Answer} {asks : Bool} (stored : Bool) {said : Said}
@@ -52,31 +33,44 @@ module _ (asked : Asked) (wanted : Bool) (trace : List ℕ) where
 
   -- ---- the files
 
-  pub no-trace : (read : Bool) (table : Option (List ℕ)) → not read ≡ true → ByStored (onFiles asked wanted (fileOf read trace) table) CannotRead
-  unfolding onFiles fileOf
-  no-trace read table e = record { stored = true; says = rw (not-true read e) }
+  -- ---- the files
 
-  module _ (read got : Bool) (table : List ℕ) (first : not read ≡ false) where
-    pub no-table : not got ≡ true → ByStored (onFiles asked wanted (fileOf read trace) (fileOf got table)) CannotRead
-    unfolding onFiles fileOf
-    no-table e = record { stored = true; says = rw (not-false read first, not-true got e) }
+  -- what is said without the judgement, by all three tests
+  ends : (read got fits : Bool) (table : List ℕ) {said : Said} → fits ≡ eqb (length table) 16384 → readyOf read got fits ≡ Ended said
+      → ByStored (onFiles asked wanted (fileOf read trace) (fileOf got table)) said
+  unfolding readyOf onFiles fileOf onTable
+  ends false got fits table {said} t e = let q : said ≡ CannotRead = cc in record { stored = true; says = q }
+  ends true false fits table {said} t e = let q : said ≡ CannotRead = cc in record { stored = true; says = q }
+  ends true true false table {said} t e =
+      let q : said ≡ Answered (refusal Fault.WrongLength 0) = cc in record { stored = true; says = q ∙ rw (sym t) }
+  ends true true true table t e = absurd (let z : _≡_ {A = ℕ} 0 1 = cc in omega arith)
 
-    module _ (second : not got ≡ false) {before after : List ℕ} {fits : Bool} (places : length before ≡ 4096) (decoded : Decoded table before fits after) where
-      test : fits ≡ eqb (length table) 16384
-      test = decoded .says ∙ rw places
+  -- and with it
+  goes-on : (read got fits : Bool) (table : List ℕ) {latencies : List ℕ} {said : Said} → fits ≡ eqb (length table) 16384
+      → (fits ≡ true → latencies ≡ latenciesOf table)
+      → readyOf read got fits ≡ Both
+      → ByStored (onLatencies asked wanted trace latencies) said
+      → ByStored (onFiles asked wanted (fileOf read trace) (fileOf got table)) said
+  unfolding readyOf onFiles fileOf onTable
+  goes-on false got fits table t holds e by = absurd (let z : _≡_ {A = ℕ} 0 1 = cc in omega arith)
+  goes-on true false fits table t holds e by = absurd (let z : _≡_ {A = ℕ} 0 1 = cc in omega arith)
+  goes-on true true false table t holds e by = absurd (let z : _≡_ {A = ℕ} 0 1 = cc in omega arith)
+  goes-on true true true table t holds e by = record { stored = by .stored; says = by .says ∙ rw (sym t, holds refl) }
 
-      pub other-length : {answer : Answer} → not fits ≡ true → answer ≡ refusal Fault.WrongLength 0
-          → ByStored (onFiles asked wanted (fileOf read trace) (fileOf got table)) (Answered answer)
-      unfolding onFiles fileOf onTable
-      other-length e a = record { stored = true; says = rw (not-false read first, not-false got second, sym test ∙ not-true fits e, a) }
+  module _ (read got : Bool) (table : List ℕ) {before after : List ℕ} {fits : Bool} (places : length before ≡ 4096) (decoded : Decoded table before fits after) where
+    test : fits ≡ eqb (length table) 16384
+    test = decoded .says ∙ rw places
 
-      pub right-length : {said : Said} → not fits ≡ false → ByStored (onLatencies asked wanted trace after) said
+    holds : fits ≡ true → after ≡ latenciesOf table
+    holds t = decoded .holds ∙ rw (sym (decoded .says) ∙ t)
+
+    module _ {ready : Readiness} (tells : ready ≡ readyOf read got fits) {said : Said} where
+      pub not-judged : ready ≡ Ended said → ByStored (onFiles asked wanted (fileOf read trace) (fileOf got table)) said
+      not-judged e = ends read got fits table test (sym tells ∙ e)
+
+      pub judged : ready ≡ Both → ByStored (onLatencies asked wanted trace after) said
           → ByStored (onFiles asked wanted (fileOf read trace) (fileOf got table)) said
-      unfolding onFiles fileOf onTable
-      right-length e by =
-          let t = not-false fits e in
-          let holds : after ≡ latenciesOf table = decoded .holds ∙ rw (sym (decoded .says) ∙ t) in
-          record { stored = by .stored; says = by .says ∙ rw (not-false read first, not-false got second, sym test ∙ t, holds) }
+      judged e by = goes-on read got fits table test holds (sym tells ∙ e) by
 
 -- ---- one answer
 

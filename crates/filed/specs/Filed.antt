@@ -2,7 +2,7 @@
 -- here: either file as it could be read, and whether the file for the written trace could be written.
 use Prim.Native.Nat.{ℕ}
 use mathlib.Core.Path.{_≡_}
-use mathlib.Core.Bool.{Bool, true, false, cond, _&&_}
+use mathlib.Core.Bool.{Bool, cond}
 use mathlib.Core.List.{List}
 use mathlib.Core.Option.{Option, none, some}
 use lib.ListN.{length, replicate}
@@ -16,18 +16,7 @@ use Rattle.answer.specs.Answers.{refusal}
 use Rattle.table.specs.Table.{latenciesOf}
 use Rattle.report.specs.declared.Said.{Said}
 use Rattle.report.specs.declared.Said.the-variants as Said
-
--- ---- the end
-
--- only an accepted trace that is wanted goes to its file
-unfoldable pub storing : Bool → Answer → Bool
-storing wanted answer = wanted && eqb (answer .number) 0
-
--- the report, or that what was to be stored could not be
-unfoldable pub endOf : (storing : Bool) → Answer → (stored : Bool) → Said
-endOf false answer stored = Said.Answered answer
-endOf true answer true = Said.Answered answer
-endOf true answer false = Said.CannotWrite
+use Rattle.decided.specs.Decided.{storing, endOf}
 
 -- ---- the judgement
 

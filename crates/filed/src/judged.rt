@@ -2,11 +2,11 @@
 ghost use mathlib.Core.Path.{_≡_};
 ghost use lib.ListN.{length};
 ghost use Rattle.files.specs.File.{fileOf};
-ghost use Rattle.filed.specs.Filed.{storing, endOf, onLatencies, onFiles, ByStored};
+ghost use Rattle.filed.specs.Filed.{onLatencies, onFiles, ByStored};
 ghost use Rattle.filed.specs.Judged.{JudgedInto};
+use decided::Readiness;
 use paper::Answer;
 use paper::Asked;
-use paper::Fault;
 use report::Said;
 
 fn blanks() -> [i64; 2048]
@@ -34,16 +34,6 @@ fn judge_into(
     judge::judge(trace, latencies, asked, &mut times, wanted, room)
 }
 
-// Only an accepted trace that is wanted goes to its file.
-fn to_store(wanted: bool, answer: Answer) -> bool
-    ensures { λ r. ⌜ r ≡ storing wanted answer ⌝ }
-{
-    if !wanted {
-        return false;
-    }
-    answer.number == 0
-}
-
 // Where there is nothing to store, the file is not touched.
 fn store_asked(storing: bool, out: &[u8], text: &[u8]) -> bool {
     if !storing {
@@ -52,30 +42,19 @@ fn store_asked(storing: bool, out: &[u8], text: &[u8]) -> bool {
     files::store(out, text)
 }
 
-fn ended(storing: bool, answer: Answer, stored: bool) -> Said
-    ensures { λ r. ⌜ r ≡ endOf storing answer stored ⌝ }
-{
-    if !storing {
-        return Said::Answered(answer);
-    }
-    if stored {
-        return Said::Answered(answer);
-    }
-    Said::CannotWrite
-}
-
 fn concluded(asked: Asked, wanted: bool, trace: &[u8], latencies: &[u32], out: &[u8]) -> Said
     ensures { λ r. ⌜ ByStored (onLatencies asked wanted (now (trace .entry)) (now (latencies .entry))) r ⌝ }
 {
     let mut room = io::large_buffer();
     let answer = judge_into(asked, wanted, trace, latencies, &mut room);
     let n = answer.written as usize;
-    let storing = to_store(wanted, answer);
+    let storing = decided::to_store(wanted, answer);
     let stored = store_asked(storing, out, &room[..n]);
-    ended(storing, answer, stored)
+    decided::ended(storing, answer, stored)
 }
 
-// "The table file is 16,384 bytes, four for each latency, low byte first, any other length being refusal 2."
+// "The table file is 16,384 bytes, four for each latency, low byte first, any other length being refusal 2." What is
+// decoded of a table that could not be read is not looked at.
 pub(crate) fn judged(
     asked: Asked,
     wanted: bool,
@@ -87,15 +66,10 @@ pub(crate) fn judged(
 ) -> Said
     ensures { λ r. ⌜ ByStored (onFiles asked wanted (fileOf read (now (trace .entry))) (fileOf got (now (table .entry)))) r ⌝ }
 {
-    if !read {
-        return Said::CannotRead;
-    }
-    if !got {
-        return Said::CannotRead;
-    }
     let mut latencies = no_latencies();
-    if !table::decode(table, &mut latencies) {
-        return Said::Answered(answer::refused(Fault::WrongLength, 0));
+    let fits = table::decode(table, &mut latencies);
+    match decided::ready(read, got, fits) {
+        Readiness::Ended(said) => said,
+        Readiness::Both => concluded(asked, wanted, trace, &latencies, out),
     }
-    concluded(asked, wanted, trace, &latencies, out)
 }

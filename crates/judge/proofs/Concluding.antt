@@ -8,10 +8,10 @@ use mathlib.Core.Bool.{Bool, true, false, cond, not}
 use mathlib.Core.Logic.{_↔_}
 use mathlib.Core.Option.{some}
 use lib.ListN.{length, take, drop}
-use lib.Seq.{ext-getD, length-take-le}
+use lib.Seq.{ext-getD}
 use lib.IntN.{ℤ, pos}
-use lib.Dec.{T, ltb, eqb}
-use borrow.Author.Tests.{lt-ltb, le-ltb, eq-eqb, eqb-true}
+use lib.Dec.{T, ltb, leb, eqb}
+use borrow.Author.Tests.{lt-ltb, le-ltb, le-leb, eq-eqb, eqb-true}
 use Rattle.paper.specs.Answer.{Inputs, Found, stopped, found, given, most, rightLengths, reach, conclude, judge, accepted, originals, onWritten, written, refused}
 use Rattle.paper.specs.Clock.{Waits, listed, same, timeAt}
 use Rattle.paper.specs.Numbers.{numberOf}
@@ -29,7 +29,7 @@ use Rattle.rounds.proofs.Meaning.{settled-answer}
 use Rattle.rounds.proofs.Still.{still-iff}
 use Rattle.forms.proofs.Tests.{both}
 use Rattle.store.proofs.Listed.{length-listed, listed-at}
-use Rattle.clock.specs.Promise.{allAre}
+use Rattle.engine.specs.Promise.{allAre}
 use Rattle.waits.proofs.Closed.{closed-waits}
 use Rattle.demands.proofs.InOrder.{few-entries, originals-range}
 use Rattle.demands.proofs.Rising.{between}
@@ -44,7 +44,8 @@ use Rattle.writing.proofs.Faithful.{Fits, bytes-written}
 use Rattle.writing.proofs.Outcomes.{Tells, wrote, no-room, misfit, told}
 use Rattle.answer.specs.declared.Counts.{Counts}
 use Rattle.answer.specs.Answers.{refusal, acceptance, verdictBy}
-use Rattle.judge.specs.Call.{inputs, outcome, answerFor, timesAfter, wroteBy, FinishedBy, WithPlaces, ConcludedBy}
+use Rattle.ending.specs.Ending.{answerFor, placed, timesAfter, EndedBy}
+use Rattle.judge.specs.Call.{inputs, outcome, wroteBy, FinishedBy, WithPlaces, ConcludedBy}
 
 -- ---- a refusal
 
@@ -141,18 +142,22 @@ module _ (i : Inputs) (f : Found) (is : reach (given i) ≡ found f) where
     unfolding accepted acceptance verdictBy
     accepted-is bytes = rw (moved, held .matched, held .unreceived, held .listed, held .passed, held .rounds)
 
+    -- a place is lent for each
+    enough : leb (length (f .times)) (length (i .times)) ≡ true
+    enough = le-leb (length (f .times)) (length (i .times)) (omega (arith, size, few, places))
+
     module _ {r : Answer} {times′ : List ℤ} where
       -- the ending by what was written
-      ended : (done : Written) (room′ : List ℕ) → r ≡ answerFor counts done → times′ ≡ timesAfter (answerFor counts done .number) (f .times) (i .times)
+      ended : (done : Written) (room′ : List ℕ) → EndedBy counts done (f .times) (i .times) r times′
           → (bytes : List ℕ) → Tells (some bytes) (i .room) done room′ → outcome r times′ room′ ≡ onWritten i f bytes
-      unfolding onWritten answerFor timesAfter acceptance refusal numberOf
-      ended done room′ a t bytes (wrote {word = word} e h) =
+      unfolding onWritten answerFor timesAfter placed acceptance refusal numberOf
+      ended done room′ by bytes (wrote {word = word} e h) =
           let q : word ≡ bytes = cc in
-          rw (a, t, q, le-ltb (length (i .room)) (length bytes) (rw q at h)) (sym (accepted-is bytes))
-      ended done room′ a t bytes (no-room {word = word} e h) =
+          rw (by .answer, by .keeps, enough, q, le-ltb (length (i .room)) (length bytes) (rw q at h)) (sym (accepted-is bytes))
+      ended done room′ by bytes (no-room {word = word} e h) =
           let q : word ≡ bytes = cc in
-          rw (a, t, lt-ltb (length (i .room)) (length bytes) (rw q at h)) (refused-is i Fault.NoRoom 0)
-      ended done room′ a t bytes (misfit e) = absurd (let z : _≡_ {A = ℕ} 0 1 = cc in omega arith)
+          rw (by .answer, by .keeps, lt-ltb (length (i .room)) (length bytes) (rw q at h)) (refused-is i Fault.NoRoom 0)
+      ended done room′ by bytes (misfit e) = absurd (let z : _≡_ {A = ℕ} 0 1 = cc in omega arith)
 
       finished : {room′ : List ℕ} → FinishedBy counts (i .trace) store (f .times) (i .times) (i .wanted) (i .room) r times′ room′
           → outcome r times′ room′ ≡ onWritten i f (written i (f .choice) (f .times))
@@ -165,34 +170,30 @@ module _ (i : Inputs) (f : Found) (is : reach (given i) ≡ found f) where
           go : (b : Bool) → i .wanted ≡ b → wroteBy b (i .trace) store (f .times) (i .room) (by .done) room′
               → outcome r times′ room′ ≡ onWritten i f (cond (i .wanted) bytes [])
           go true e into =
-              ended (by .done) room′ (by .answer) (by .keeps) bytes (rw (bytes-written its-own) at (told into))
+              ended (by .done) room′ (by .ends) bytes (rw (bytes-written its-own) at (told into))
               ∙ ap (λ (b : Bool). onWritten i f (cond b bytes [])) (sym e)
           go false e (unwritten, kept) =
-              ended (by .done) room′ (by .answer) (by .keeps) [] (rw (unwritten, kept) (wrote refl (omega arith)))
+              ended (by .done) room′ (by .ends) [] (rw (unwritten, kept) (wrote refl (omega arith)))
               ∙ ap (λ (b : Bool). onWritten i f (cond b bytes [])) (sym e)
 
 -- ---- however far the call came
 
 module _ (counts : Counts) (trace store : List ℕ) (new times : List ℤ) {wanted : Bool} (room : List ℕ) {r : Answer} {times′ : List ℤ} where
   pub finished-wanted : wanted ≡ true → (done : Written) {room′ : List ℕ} → WrittenInto trace store new room done room′
-      → (r ≡ answerFor counts done) × (times′ ≡ timesAfter (answerFor counts done .number) new times)
+      → EndedBy counts done new times r times′
       → FinishedBy counts trace store new times wanted room r times′ room′
   unfolding wroteBy
-  finished-wanted e done into (a, t) = rw e (record { done = done; wrote = into; answer = a; keeps = t })
+  finished-wanted e done into ends = rw e (record { done = done; wrote = into; ends = ends })
 
-  pub finished-unasked : wanted ≡ false → (r ≡ answerFor counts (Length 0)) × (times′ ≡ timesAfter (answerFor counts (Length 0) .number) new times)
+  pub finished-unasked : wanted ≡ false → EndedBy counts (Length 0) new times r times′
       → FinishedBy counts trace store new times wanted room r times′ room
   unfolding wroteBy
-  finished-unasked e (a, t) = rw e (record { done = Length 0; wrote = (refl, refl); answer = a; keeps = t })
+  finished-unasked e ends = rw e (record { done = Length 0; wrote = (refl, refl); ends = ends })
 
 -- the new times in front of their slice
-module _ {reached : Reached} (new times : List ℤ) (enough : WithPlaces reached new times) (counts : Counts) (e : reached ≡ Times counts) where
-  pub within : (counts .listed ≤ length new) × (counts .listed ≤ length times)
-  unfolding WithPlaces
-  within = rw e at enough
-
-  pub part-fits : length (take (counts .listed - 0) new) ≤ length times
-  part-fits = rw (sub-zero, length-take-le (counts .listed) new (within .0)) (within .1)
+pub within : {reached : Reached} (new : List ℤ) → WithPlaces reached new → (counts : Counts) → reached ≡ Times counts → counts .listed ≤ length new
+unfolding WithPlaces
+within new enough counts e = rw e at enough
 
 module _ (trace store : List ℕ) (new times : List ℤ) (wanted : Bool) (room : List ℕ) (r : Answer) where
   pub concluded-refused : {reached : Reached} (fault : Fault) (line : ℕ) → reached ≡ Refused fault line → r ≡ refusal fault line
@@ -219,10 +220,9 @@ module _ (trace store : List ℕ) (new times : List ℤ) (wanted : Bool) (room :
 
 -- a place for each listed record, of a call that came to its times
 pub with-places : (i : Inputs) (reached : Reached) (store sends : List ℕ) (new : List ℤ) → reaches (i .trace) (reach (given i)) reached store sends new
-    → most (given i) ≤ length new → WithPlaces reached new (i .times)
+    → most (given i) ≤ length new → WithPlaces reached new
 unfolding WithPlaces reaches
-with-places i (Times counts) store sends new (f, is, held) long =
-    (omega (arith, held .listed, few i f is), omega (arith, held .listed, few i f is, places i f is))
+with-places i (Times counts) store sends new (f, is, held) long = omega (arith, held .listed, few i f is)
 with-places i (Refused fault line) store sends new says long = tt
 with-places i Misfit store sends new says long = tt
 

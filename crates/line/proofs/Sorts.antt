@@ -17,7 +17,8 @@ use Rattle.paper.specs.declared.Fault.the-variants as Fault
 use Rattle.paper.specs.declared.Standing.{Standing}
 use Rattle.paper.specs.declared.Standing.the-variants as Standing
 use Rattle.paper.specs.declared.Line.the-variants.{Refused}
-use Rattle.fields.specs.Cursor.{restAt, begunOf, begunNext, Tells}
+use Rattle.field.specs.Cursor.{restAt, Tells}
+use Rattle.fields.specs.Cursor.{begunOf, begunNext}
 use Rattle.fields.specs.declared.Opening.{Opening}
 use Rattle.fields.specs.declared.Opening.the-variants as Opening
 

@@ -1,7 +1,7 @@
 // A listed line: "then 9, data (5), 10".
 ghost use mathlib.Core.Path.{_≡_};
 ghost use Rattle.paper.specs.Line.{placed, messageOf, roleOf, withRole, withData, listedLine};
-ghost use Rattle.fields.specs.Cursor.{restAt};
+ghost use Rattle.field.specs.Cursor.{restAt};
 ghost use Rattle.signed.specs.Naturals.{numberIn};
 ghost use Rattle.line.specs.Sorting.{noteOf, castOf};
 use paper::Data;
@@ -114,6 +114,6 @@ pub(crate) fn listed_line(l: &[u8], h: Head, next: usize) -> Line
     let Natural::Of(processor) = place_of(h.processor, h.process) else {
         return Line::Refused(Fault::Place);
     };
-    let values = fields::read_data(l, next, h.count);
+    let values = values::read(l, next, h.count);
     with_data(h, processor, parts::part_of(h.kind, h.event), values)
 }

@@ -1,7 +1,7 @@
 // "Next the record type (7 or passed over), event not handled (8), event type (7 or passed over)".
 ghost use mathlib.Core.Path.{_≡_};
 ghost use Rattle.paper.specs.Line.{goodEnd, stepOver, unlisted, begun, six};
-ghost use Rattle.fields.specs.Cursor.{restAt};
+ghost use Rattle.field.specs.Cursor.{restAt};
 use crate::listed;
 use paper::Choice;
 use paper::Fault;

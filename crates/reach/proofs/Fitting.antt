@@ -12,7 +12,7 @@ use Rattle.paper.specs.Answer.{Given, most, onRead, reach}
 use Rattle.paper.specs.Reading.{readOf}
 use Rattle.paper.specs.declared.Choice.{Choice}
 use Rattle.store.specs.Layout.{tooMany, capacity}
-use Rattle.clock.specs.Promise.{allAre}
+use Rattle.engine.specs.Promise.{allAre}
 use Rattle.forms.proofs.Tests.{both}
 use Rattle.reach.specs.declared.Reached.{Reached}
 use Rattle.reach.specs.declared.Reached.the-variants.{Misfit}

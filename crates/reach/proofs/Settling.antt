@@ -11,7 +11,7 @@ use lib.Seq.{take-at, length-take-le}
 use lib.IntN.{ℤ}
 use borrow.Author.Tests.{lt-ltb, le-leb, eq-eqb}
 use Rattle.store.specs.Layout.{tooMany, capacity, entriesIn}
-use Rattle.clock.specs.Promise.{allAre}
+use Rattle.engine.specs.Promise.{allAre}
 use Rattle.solve.specs.declared.Solved.{Solved}
 use Rattle.solve.specs.Outcome.{fitting, SolvedInto}
 use Rattle.reach.specs.declared.Reached.{Reached}

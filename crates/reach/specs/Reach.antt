@@ -12,7 +12,7 @@ use Rattle.paper.specs.Matching.{entryAt, matchedCount, unreceivedCount}
 use Rattle.reading.specs.Starts.{startOf}
 use Rattle.store.specs.Layout.{entriesIn, startFrom}
 use Rattle.chains.specs.Places.{placesOf}
-use Rattle.clock.specs.Promise.{allAre}
+use Rattle.engine.specs.Promise.{allAre}
 use Rattle.answer.specs.declared.Counts.{Counts}
 use Rattle.reach.specs.declared.Reached.{Reached}
 use Rattle.reach.specs.declared.Reached.the-variants.{Times, Refused, Misfit}

@@ -40,7 +40,7 @@ fn fit(
     if times != room {
         return false;
     }
-    clock::all_are(room, sends, before, latency, spare)
+    engine::all_are(room, sends, before, latency, spare)
 }
 
 // `places` is how many times the caller lends. Of the other slices `before`, `latency` and `spare` are room for the work.

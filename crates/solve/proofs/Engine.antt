@@ -11,7 +11,7 @@ use Rattle.store.specs.Layout.{entriesIn}
 use Rattle.store.proofs.Laws.{length-entries}
 use Rattle.store.proofs.Listed.{length-listed}
 use Rattle.clock.specs.Promise.{outcome, outcomeOf}
-use Rattle.clock.specs.Inner.{Sized}
+use Rattle.engine.specs.Inner.{Sized}
 use Rattle.clock.specs.declared.Settled.{Settled}
 use Rattle.clock.specs.declared.Settled.the-variants.{Rounds, Impossible, Misfit}
 use Rattle.clock.proofs.Outcomes.{rounds-learnt, impossible-learnt, misfit-learnt}
@@ -55,7 +55,7 @@ module _ (store table sends : List ℕ) {before latency : List ℕ} (times : Lis
       }
 
   -- the engine's waits settle as the paper's
-  paper-settles : paper.settle (Rattle.clock.specs.Promise.waitsOf o b sends l) ≡ paper.settle (waitsOf table es)
+  paper-settles : paper.settle (Rattle.engine.specs.Promise.waitsOf o b sends l) ≡ paper.settle (waitsOf table es)
   paper-settles =
       same-settled table es
       (record { are-originals = all-o; are-befores = b-is; are-sends = rw (tables .places) (unfold placesOf in refl); are-latencies = l-is })

@@ -20,11 +20,11 @@ use Rattle.message.specs.Outcome as message
 use Rattle.message.specs.declared.Matching.{Matching}
 use Rattle.message.specs.declared.Matching.the-variants as Matching
 use Rattle.forms.proofs.Tests.{both}
-use Rattle.clock.specs.Promise.{allAre}
-use Rattle.clock.specs.Inner.{Sized}
+use Rattle.engine.specs.Promise.{allAre}
+use Rattle.engine.specs.Inner.{Sized}
 use Rattle.clock.specs.declared.Settled.{Settled}
 use Rattle.clock.specs.declared.Settled.the-variants as Settled
-use Rattle.clock.proofs.Lengths.{fits}
+use Rattle.engine.proofs.Lengths.{fits}
 use Rattle.solve.specs.Outcome.{fitting, solvedBy, SolvedInto, settledAs, Tables, settledBy}
 use Rattle.solve.specs.declared.Solved.{Solved}
 use Rattle.solve.specs.declared.Solved.the-variants.{Times, Refused, Impossible, Misfit}

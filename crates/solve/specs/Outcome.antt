@@ -12,7 +12,7 @@ use Rattle.paper.specs.Matching.{matchedOf, matchedCount, unreceivedCount, wait
 use Rattle.paper.specs.declared.Entry.{Entry}
 use Rattle.paper.specs.declared.Stop.the-variants.{End, At}
 use Rattle.store.specs.Layout.{tooMany, capacity, entriesIn}
-use Rattle.clock.specs.Promise.{allAre}
+use Rattle.engine.specs.Promise.{allAre}
 use Rattle.clock.specs.declared.Settled.{Settled}
 use Rattle.clock.specs.declared.Settled.the-variants as Settled
 use Rattle.chains.specs.Places.{placesOf}

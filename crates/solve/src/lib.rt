@@ -48,7 +48,7 @@ fn fit(n: usize, room: usize, sends: usize, before: usize, latency: usize, spare
     if room < n {
         return false;
     }
-    clock::all_are(n, sends, before, latency, spare)
+    engine::all_are(n, sends, before, latency, spare)
 }
 
 // The engine's answer, where all messages match.

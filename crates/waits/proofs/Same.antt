@@ -13,7 +13,7 @@ use Rattle.paper.specs.Matching.{lastOn, sendOf}
 use Rattle.paper.specs.declared.Entry.{Entry}
 use Rattle.store.proofs.Listed.{length-listed, listed-at}
 use Rattle.matching.proofs.Belong.{processorAt}
-use Rattle.clock.specs.Promise.{place, waitsOf}
+use Rattle.engine.specs.Promise.{place, waitsOf}
 use Rattle.waits.specs.Tables.{originalAt, latencyAt, originalsOf, beforesOf, latenciesOf}
 use Rattle.rounds.specs.Compare.{First}
 use Rattle.rounds.proofs.Agree.{settle-agrees}

@@ -7,7 +7,8 @@ use lib.IntN.{pos}
 use borrow.Author.Count.{below-none}
 use borrow.Author.Needs.{needs}
 use Rattle.paper.specs.Clock.{timeAt}
-use Rattle.clock.proofs.Filling.{fill-more, cleared}
+use Rattle.engine.proofs.Filling.{fill-more}
+use Rattle.clock.proofs.Clearing.{cleared}
 use Rattle.clock.proofs.clear.Statement.{statement}
 use Rattle.clock.proofs.clear.Tie as tie
 

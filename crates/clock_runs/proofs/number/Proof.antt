@@ -3,7 +3,7 @@ use native.Mathlib.Omega.{arith}
 use lib.Signed.{yes-nonNeg, natAbs-le}
 use mir.Facts.{toZ-ofZ}
 use borrow.Author.Needs.{needs}
-use Rattle.clock.proofs.Tests.{failed}
+use Rattle.engine.proofs.Tests.{failed}
 use Rattle.clock_runs.proofs.number.Statement.{statement}
 use Rattle.clock_runs.proofs.number.Tie as tie
 

@@ -2,7 +2,7 @@
 use borrow.Author.Needs.{needs}
 use mathlib.Core.Path.{sym, _∙_}
 use Rattle.fields.specs.Cursor.{begunOf, badStamp}
-use Rattle.fields.proofs.Cursors.{without}
+use Rattle.field.proofs.Cursors.{without}
 use Rattle.fields.proofs.head.bad_stamp.Statement.{statement}
 use Rattle.fields.proofs.head.bad_stamp.Tie as tie
 

@@ -1,8 +1,9 @@
 -- `fields::head::place` meets its contract.
 use borrow.Author.Needs.{needs}
 use Rattle.paper.specs.Line.{placeOf}
-use Rattle.fields.specs.Cursor.{begunOf, readAs}
-use Rattle.fields.proofs.Cursors.{got, not-got, counted, counted-near, not-counted, without}
+use Rattle.field.specs.Cursor.{readAs}
+use Rattle.fields.specs.Cursor.{begunOf}
+use Rattle.field.proofs.Cursors.{got, not-got, counted, counted-near, not-counted, without}
 use Rattle.fields.proofs.Heads.{made}
 use Rattle.fields.proofs.head.place.Statement.{statement}
 use Rattle.fields.proofs.head.place.Tie as tie

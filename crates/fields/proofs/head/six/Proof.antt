@@ -1,7 +1,8 @@
 -- `fields::head::six` meets its contract.
 use borrow.Author.Needs.{needs}
-use Rattle.fields.specs.Cursor.{begunOf, readAs}
-use Rattle.fields.proofs.Cursors.{got, not-got, without, instead}
+use Rattle.field.specs.Cursor.{readAs}
+use Rattle.fields.specs.Cursor.{begunOf}
+use Rattle.field.proofs.Cursors.{got, not-got, without, instead}
 use Rattle.fields.proofs.Heads.{bad-kind, bad-event, bad-time, good-three}
 use Rattle.fields.proofs.head.six.Statement.{statement}
 use Rattle.fields.proofs.head.six.Tie as tie

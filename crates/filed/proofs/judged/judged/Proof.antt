@@ -1,14 +1,8 @@
 -- `filed::judged::judged` meets its contract.
 use borrow.Author.Needs.{needs}
-use Rattle.filed.proofs.Filed.{no-trace, no-table, other-length, right-length}
+use Rattle.filed.proofs.Filed.{not-judged, judged}
 use Rattle.filed.proofs.judged.judged.Statement.{statement}
 use Rattle.filed.proofs.judged.judged.Tie as tie
-
-returns : tie.Need-returns
-returns c = no-trace _ _ _ _ _ (c .if1 .taken)
-
-returns-2 : tie.Need-returns-2
-returns-2 c = no-table _ _ _ _ _ _ (c .before .if1 .left) (c .if2 .taken)
 
 no-latencies-requires : tie.Need-no-latencies-requires
 no-latencies-requires c κs = search needs
@@ -19,14 +13,14 @@ slice-aggregate-decode c = search needs
 decode-requires : tie.Need-decode-requires
 decode-requires c κs = search needs
 
-refused-requires : tie.Need-refused-requires
-refused-requires c κs = search needs
+ready-requires : tie.Need-ready-requires
+ready-requires c κs = search needs
 
-returns-3 : tie.Need-returns-3
-returns-3 c =
-    let c₃ = c .before .before .before in
-    let c₆ = c₃ .before .before .before in
-    other-length _ _ _ _ _ _ (c₆ .before .if1 .left) (c₆ .if2 .left) (c₃ .before .before .no-latencies .ensures) (c₃ .decode .ensures) (c .before .if3 .taken) (c .refused .ensures)
+enum-known-said : tie.Need-enum-known-said
+enum-known-said c = search needs
+
+enum-told : tie.Need-enum-told
+enum-told c = search needs
 
 slice-aggregate-concluded : tie.Need-slice-aggregate-concluded
 slice-aggregate-concluded c = search needs
@@ -34,23 +28,29 @@ slice-aggregate-concluded c = search needs
 concluded-requires : tie.Need-concluded-requires
 concluded-requires c κs = search needs
 
-returns-4 : tie.Need-returns-4
-returns-4 c =
+returns : tie.Need-returns
+returns c =
+    let c₃ = c .before .before .before in
+    let c₅ = c₃ .before .before in
+    not-judged _ _ _ _ _ _ (c₅ .before .before .no-latencies .ensures) (c₅ .decode .ensures) (c₃ .ready .ensures) (c .before .said .given .1)
+
+returns-2 : tie.Need-returns-2
+returns-2 c =
     let c₄ = c .before .before .before .before in
-    let c₇ = c₄ .before .before .before in
-    right-length _ _ _ _ _ _ (c₇ .before .if1 .left) (c₇ .if2 .left) (c₄ .before .before .no-latencies .ensures) (c₄ .decode .ensures) (c .before .before .if3 .left) (c .concluded .ensures)
+    let c₆ = c₄ .before .before in
+    judged _ _ _ _ _ _ (c₆ .before .before .no-latencies .ensures) (c₆ .decode .ensures) (c₄ .ready .ensures) (c .before .before .enum-told .given .1) (c .concluded .ensures)
 
 pub judged-spec : {M : Type 1} → statement M
 judged-spec =
     tie.close
     (tie.spec
-    returns
-    returns-2
     no-latencies-requires
     slice-aggregate-decode
     decode-requires
-    refused-requires
-    returns-3
+    ready-requires
+    enum-known-said
+    enum-told
     slice-aggregate-concluded
     concluded-requires
-    returns-4)
+    returns
+    returns-2)

@@ -1,6 +1,6 @@
 -- `judge::conclude::conclude` meets its contract.
 use borrow.Author.Needs.{needs}
-use Rattle.judge.proofs.Concluding.{within, part-fits, concluded-times, concluded-refused, concluded-never}
+use Rattle.judge.proofs.Concluding.{within, concluded-times, concluded-refused, concluded-never}
 use Rattle.judge.proofs.conclude.conclude.Statement.{statement}
 use Rattle.judge.proofs.conclude.conclude.Tie as tie
 
@@ -14,12 +14,10 @@ part-finish-start : tie.Need-part-finish-start
 part-finish-start c = search needs
 
 part-finish-end : tie.Need-part-finish-end
-part-finish-end c = within _ _ (c .before .before .before .before .before .before .pre) _ (c .before .reached .given .1) .0
+part-finish-end c = within _ (c .before .before .before .before .before .before .pre) _ (c .before .reached .given .1)
 
 finish-requires : tie.Need-finish-requires
-finish-requires c κs =
-    let c₄ = c .before .before .before .before in
-    part-fits _ _ (c₄ .before .before .before .before .before .pre) _ (c₄ .reached .given .1)
+finish-requires c κs = search needs
 
 enum-known-reached-2 : tie.Need-enum-known-reached-2
 enum-known-reached-2 c = search needs

@@ -17,8 +17,8 @@ enum-told c = search needs
 returns : tie.Need-returns
 returns c = no-place _ _ _ (c .before .before .place-of .ensures ∙ search needs) (c .enum-told .given .1)
 
-read-data-requires : tie.Need-read-data-requires
-read-data-requires c κs = search needs
+read-requires : tie.Need-read-requires
+read-requires c κs = search needs
 
 part-of-requires : tie.Need-part-of-requires
 part-of-requires c κs = search needs
@@ -30,7 +30,7 @@ returns-2 : tie.Need-returns-2
 returns-2 c =
     let part = c .before .part-of .ensures in
     let c₄ = c .before .before .before .before in
-    let values = c₄ .read-data .ensures in
+    let values = c₄ .read .ensures in
     let processor = c₄ .before .before .processor .given .1 in
     let place = c₄ .before .before .before .before .place-of .ensures in
     c .with-data .ensures ∙ good-place _ _ _ (place ∙ search needs) _ processor _ (search needs) (search needs) part values
@@ -43,7 +43,7 @@ listed-line-spec =
     enum-known-processor
     enum-told
     returns
-    read-data-requires
+    read-requires
     part-of-requires
     with-data-requires
     returns-2)

@@ -1,0 +1,52 @@
+// What is said of two files, as far as it goes by what the system told of them: before they are judged, and at the end. The functions
+// that ask the system are those of `filed`.
+ghost use mathlib.Core.Path.{_≡_};
+ghost use Rattle.decided.specs.Decided.{readyOf, storing, endOf};
+use paper::Answer;
+use paper::Fault;
+use report::Said;
+
+// Whether there is a trace and a table to judge it by, or what is said without.
+pub enum Readiness {
+    Both,
+    Ended(Said),
+}
+
+// "cannot read" for either file before all else that is asked of them, and 2 for a table of another length.
+pub fn ready(read: bool, got: bool, fits: bool) -> Readiness
+    ensures { λ r. ⌜ r ≡ readyOf read got fits ⌝ }
+{
+    if !read {
+        return Readiness::Ended(Said::CannotRead);
+    }
+    if !got {
+        return Readiness::Ended(Said::CannotRead);
+    }
+    if !fits {
+        return Readiness::Ended(Said::Answered(answer::refused(Fault::WrongLength, 0)));
+    }
+    Readiness::Both
+}
+
+// Only an accepted trace that is wanted goes to its file.
+pub fn to_store(wanted: bool, answer: Answer) -> bool
+    ensures { λ r. ⌜ r ≡ storing wanted answer ⌝ }
+{
+    if !wanted {
+        return false;
+    }
+    answer.number == 0
+}
+
+// The report, or that what was to be stored could not be.
+pub fn ended(storing: bool, answer: Answer, stored: bool) -> Said
+    ensures { λ r. ⌜ r ≡ endOf storing answer stored ⌝ }
+{
+    if !storing {
+        return Said::Answered(answer);
+    }
+    if stored {
+        return Said::Answered(answer);
+    }
+    Said::CannotWrite
+}

@@ -1,0 +1,2 @@
+-- What the ending of a call leaves.
+pub mod Ending

@@ -1,0 +1,40 @@
+-- The lengths compared one by one.
+use borrow.Author.Tests.{eq-eqb, ne-eqb}
+use Rattle.engine.specs.Promise.{allAre}
+use Rattle.engine.proofs.all_are.Statement.{statement}
+use Rattle.engine.proofs.all_are.Tie as tie
+
+returns : tie.Need-returns
+unfolding allAre
+returns c = rw (ne-eqb _ _ (c .if1 .taken))
+
+returns-2 : tie.Need-returns-2
+unfolding allAre
+returns-2 c = rw (eq-eqb _ _ (c .before .if1 .left), ne-eqb _ _ (c .if2 .taken))
+
+returns-3 : tie.Need-returns-3
+unfolding allAre
+returns-3 c = rw (eq-eqb _ _ (c .before .before .if1 .left), eq-eqb _ _ (c .before .if2 .left), ne-eqb _ _ (c .if3 .taken))
+
+returns-4 : tie.Need-returns-4
+unfolding allAre
+returns-4 c =
+    rw (
+      eq-eqb _ _ (c .before .before .before .if1 .left),
+      eq-eqb _ _ (c .before .before .if2 .left),
+      eq-eqb _ _ (c .before .if3 .left),
+      ne-eqb _ _ (c .if4 .taken),
+    )
+
+returns-5 : tie.Need-returns-5
+unfolding allAre
+returns-5 c =
+    rw (
+      eq-eqb _ _ (c .before .before .before .if1 .left),
+      eq-eqb _ _ (c .before .before .if2 .left),
+      eq-eqb _ _ (c .before .if3 .left),
+      eq-eqb _ _ (c .if4 .left),
+    )
+
+pub all-are-spec : {M : Type 1} → statement M
+all-are-spec = tie.close (tie.spec returns returns-2 returns-3 returns-4 returns-5)

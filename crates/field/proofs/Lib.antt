@@ -1,0 +1,4 @@
+-- The laws of a cursor.
+pub mod Cursors
+pub mod Counts
+pub mod Outcome

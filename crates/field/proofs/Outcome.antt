@@ -1,0 +1,57 @@
+-- The statements leave one answer.
+use Prim.Native.Nat.{ℕ, _+_, _≤_}
+use mathlib.Core.Path.{_≡_, refl, sym, ap, _∙_}
+use mathlib.Core.List.{List}
+use mathlib.Core.Bool.{Bool, true, false, cond}
+use mathlib.Core.Option.{none, some}
+use native.Mathlib.Omega.{arith}
+use lib.ListN.{length, drop, length-drop}
+use lib.Dec.{ltb}
+use borrow.Author.Tests.{ltb-true, ltb-false}
+use Rattle.paper.specs.Line.{First}
+use Rattle.field.specs.declared.Got.{Got}
+use Rattle.field.specs.declared.Got.the-variants.{Value, Nothing}
+use Rattle.field.specs.declared.Counted.{Counted}
+use Rattle.field.specs.declared.Counted.the-variants as Counted
+use Rattle.field.specs.Cursor.{restAt, gotOf, gotNext, countedOf, countedNext, Tells}
+
+-- two cursors with the same fields behind them, neither of them far past the end, stand at one place
+pub one-cursor : (l : List ℕ) (n m : ℕ) → restAt l n ≡ restAt l m → n ≤ length l + 1 → m ≤ length l + 1 → n ≡ m
+unfolding restAt
+one-cursor l n m e p q = go (ltb (length l) n) (ltb (length l) m) refl refl e
+  where
+    go : (a b : Bool) → ltb (length l) n ≡ a → ltb (length l) m ≡ b → cond a none (some (drop n l)) ≡ cond b none (some (drop m l)) → n ≡ m
+    go true true f g e = omega (arith, ltb-true (length l) n f, ltb-true (length l) m g)
+    go true false f g e = cc
+    go false true f g e = cc
+    go false false f g e =
+        let d : drop n l ≡ drop m l = cc in
+        let s : length (drop n l) ≡ length (drop m l) = ap length d in
+        omega (arith, simp length-drop at s, ltb-false (length l) n f, ltb-false (length l) m g)
+
+same-got : (l : List ℕ) (r q : Got) → gotOf l r ≡ gotOf l q → gotNext r ≤ length l + 1 → gotNext q ≤ length l + 1 → r ≡ q
+unfolding gotOf
+same-got l (Value v n) (Value u m) e a b =
+    let k : v ≡ u = cc in
+    let d : restAt l n ≡ restAt l m = cc in
+    rw (k, one-cursor l n m d a b)
+same-got l (Value v n) Nothing e a b = cc
+same-got l Nothing (Value u m) e a b = cc
+same-got l Nothing Nothing e a b = refl
+
+pub one-value : (l : List ℕ) (there : First) (r q : Got) → Tells l (gotOf l r) there (gotNext r) → Tells l (gotOf l q) there (gotNext q) → r ≡ q
+one-value l there r q e f = same-got l r q (e .is ∙ sym (f .is)) (e .near) (f .near)
+
+same-counted : (l : List ℕ) (r q : Counted) → countedOf l r ≡ countedOf l q → countedNext r ≤ length l + 1 → countedNext q ≤ length l + 1 → r ≡ q
+unfolding countedOf
+same-counted l (Counted.Of v n) (Counted.Of u m) e a b =
+    let k : v ≡ u = cc in
+    let d : restAt l n ≡ restAt l m = cc in
+    rw (k, one-cursor l n m d a b)
+same-counted l (Counted.Of v n) Counted.Nothing e a b = cc
+same-counted l Counted.Nothing (Counted.Of u m) e a b = cc
+same-counted l Counted.Nothing Counted.Nothing e a b = refl
+
+pub one-count : (l : List ℕ) (there : First) (r q : Counted) → Tells l (countedOf l r) there (countedNext r) → Tells l (countedOf l q) there (countedNext q)
+    → r ≡ q
+one-count l there r q e f = same-counted l r q (e .is ∙ sym (f .is)) (e .near) (f .near)

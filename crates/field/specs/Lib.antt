@@ -1,0 +1,2 @@
+-- What a cursor means.
+pub mod Cursor

@@ -1,0 +1,3 @@
+-- The laws of the data.
+pub mod Values
+pub mod Outcome

@@ -1,0 +1,2 @@
+-- What the functions of this crate tell each other.
+pub mod Values
