@@ -3,7 +3,7 @@
  * ./library makes it for x86-64, as lib/libcantuvesh.a and lib/libcantuvesh.so beside
  * include/cantuvesh.h, and prints the line that compiles a program with it. It needs no set-up, keeps
  * nothing between calls, allocates nothing and may be called from several threads at once, each with
- * times and room of its own. A call takes some 160,000 bytes of the calling thread's stack (155,192 as
+ * times and room of its own. A call takes some 160,000 bytes of the calling thread's stack (153,592 as
  * reference/stack measures it: at 2,048 records, the written trace wanted).
  */
 #ifndef CANTUVESH_H
