@@ -32,11 +32,15 @@ module _ (rule : List ℤ → ℕ → ℤ) (xs : List ℤ) where
       filled-more : (k : ℕ) → k < i + 1 → (timeAt (set to i v) k ≡ rule xs k) × Within (set to i v) k
       filled-more = fill-more (λ k z. (z ≡ rule xs k) × (z ≤ℤ limit)) to i (t .filled) l v (e, low)
 
-      pub turn-good : v ≡ timeAt xs i → Turning rule xs (set to i v) same (i + 1)
+      turn-good : v ≡ timeAt xs i → Turning rule xs (set to i v) same (i + 1)
       turn-good here = record { filled = filled-more; tells = told-good _ same i (t .tells) (sym e ∙ here) }
 
       pub turn-bad : (v ≡ timeAt xs i → ⊥) → Turning rule xs (set to i v) false (i + 1)
       turn-bad not = record { filled = filled-more; tells = told-bad _ i (i + 1) (omega arith) (λ here. not (e ∙ here)) }
+
+    -- a time that stayed, and so is not above the limit either
+    pub turn-still : i < length to → timeAt xs i ≤ℤ limit → v ≡ timeAt xs i → Turning rule xs (set to i v) same (i + 1)
+    turn-still l low here = turn-good l (rw here low) here
 
   module _ {to : List ℤ} {i : ℕ} (end : i ≡ length xs) (size : length to ≡ length xs) where
     pub turned-same : Turning rule xs to true i → Turned rule xs Same to

@@ -61,26 +61,26 @@ fn next_at(before: &[u32], send: &[u32], latency: &[u32], from: &[i64], i: usize
     after(from, send[i], latency[i], a)
 }
 
-// Into `to` the round after `from`.
+// Into `to` the round after `from`. No time of `from` is above the limit, so that only one that moved is held to it.
 fn round(before: &[u32], send: &[u32], latency: &[u32], from: &[i64], to: &mut [i64]) -> Turn
     requires { ⌜ Low (now from) ⌝ }
     requires { ⌜ Sized (now before) (now send) (now latency) (now from) (now to) ⌝ }
     ensures { λ r. ⌜ Turned (following (now (before .entry)) (now (send .entry)) (now (latency .entry))) (now (from .entry)) r (now (to .exit)) ⌝ }
 {
-    let mut same = true;
+    let mut moved: usize = 0;
     let mut i = 0;
     while i < from.len() {
         let time = next_at(before, send, latency, from, i);
-        if time > LIMIT {
-            return Turn::Over;
-        }
-        if time != from[i] {
-            same = false;
-        }
         to[i] = time;
+        if time != from[i] {
+            if time > LIMIT {
+                return Turn::Over;
+            }
+            moved += 1;
+        }
         i += 1;
     }
-    if same {
+    if moved == 0 {
         return Turn::Same;
     }
     Turn::Moved

@@ -1,3 +1,4 @@
 pub mod Sorts
 pub mod Parts
+pub mod Heres
 pub mod Outcome

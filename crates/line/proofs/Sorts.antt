@@ -3,13 +3,16 @@ use Prim.Native.Nat.{ℕ, zero, suc}
 use mathlib.Core.Path.{_≡_, refl, sym, ap, _∙_}
 use mathlib.Core.List.{List}
 use mathlib.Core.Bool.{Bool, true, false, cond}
+use mathlib.Core.Logic.{_⊎_, inl, inr}
 use mathlib.Core.Option.{Option, none, some}
 use native.Mathlib.Omega.{arith}
 use lib.ListN.{length, drop, length-drop}
+use lib.IntN.{ℤ}
 use lib.Dec.{ltb}
+use denote.Enum.Declared.{tagOf}
 use borrow.Author.Tests.{lt-ltb, le-ltb, ltb-true, ltb-false}
 use Rattle.paper.specs.Events.{listedKind, standingOf}
-use Rattle.paper.specs.Line.{goodEnd, stepOver, unlisted, sorted, six, begun, lineOf, headOf}
+use Rattle.paper.specs.Line.{goodEnd, stepOver, unlisted, listedLine, sorted, six, begun, lineOf, headOf}
 use Rattle.paper.specs.declared.Choice.{Choice}
 use Rattle.paper.specs.declared.Head.{Head}
 use Rattle.paper.specs.declared.Fault.{Fault}
@@ -17,10 +20,12 @@ use Rattle.paper.specs.declared.Fault.the-variants as Fault
 use Rattle.paper.specs.declared.Standing.{Standing}
 use Rattle.paper.specs.declared.Standing.the-variants as Standing
 use Rattle.paper.specs.declared.Line.the-variants.{Refused}
+use Rattle.paper.proofs.Standing.{the-type}
 use Rattle.field.specs.Cursor.{restAt, Tells}
 use Rattle.fields.specs.Cursor.{begunOf, begunNext}
 use Rattle.fields.specs.declared.Opening.{Opening}
 use Rattle.fields.specs.declared.Opening.the-variants as Opening
+use Rattle.line.specs.Sorting.{standingIn}
 
 -- ---- the end of an unlisted line
 
@@ -47,6 +52,17 @@ module _ (l : List ℕ) (next : ℕ) where
       go true e = le-ltb next (length l) (omega (arith, ltb-true (length l) next e))
       go false e = inner (ltb next (length l)) refl
 
+-- ---- the standing
+
+module _ {kind event k e : ℤ} (same-kind : k ≡ kind) (same-event : e ≡ event) {told : Bool} (tells : told ≡ listedKind k) where
+  pub kind-listed : told ≡ true → standingOf e ≡ standingIn kind event
+  unfolding standingIn
+  kind-listed t = rw (← same-kind, ← tells, t, same-event)
+
+  pub kind-unlisted : told ≡ false → Standing.Unlisted ≡ standingIn kind event
+  unfolding standingIn
+  kind-unlisted t = rw (← same-kind, ← tells, t)
+
 -- ---- the line
 
 module _ (choice : Choice) (h : Head) (fields : Option (List ℕ)) where
@@ -58,13 +74,28 @@ module _ (choice : Choice) (h : Head) (fields : Option (List ℕ)) where
   unfolding unlisted
   end-bad e = rw e
 
-  pub kind-unlisted : listedKind (h .kind) ≡ false → unlisted choice h fields ≡ begun choice (six h fields)
-  unfolding begun
-  kind-unlisted e = rw e
+  -- the two standings of a listed line, by their places among the four
+  pub listed-as : (s : Standing) → (tagOf the-type s ≡ 0) ⊎ (tagOf the-type s ≡ 1) → listedLine h fields ≡ sorted choice h fields s
+  unfolding sorted
+  listed-as Standing.Listed which = refl
+  listed-as Standing.Message which = refl
+  listed-as Standing.NotHandled (inl e) = absurd (omega arith)
+  listed-as Standing.NotHandled (inr e) = absurd (omega arith)
+  listed-as Standing.Unlisted (inl e) = absurd (omega arith)
+  listed-as Standing.Unlisted (inr e) = absurd (omega arith)
 
-  pub kind-listed : (s : Standing) → listedKind (h .kind) ≡ true → standingOf (h .event) ≡ s → sorted choice h fields s ≡ begun choice (six h fields)
-  unfolding begun
-  kind-listed s e p = rw (e, p)
+  pub by-standing : begun choice (six h fields) ≡ sorted choice h fields (standingIn (h .kind) (h .event))
+  unfolding begun standingIn sorted
+  by-standing = go (listedKind (h .kind))
+    where
+      go : (b : Bool) → cond b (sorted choice h fields (standingOf (h .event))) (unlisted choice h fields)
+          ≡ sorted choice h fields (cond b (standingOf (h .event)) Standing.Unlisted)
+      go true = refl
+      go false = refl
+
+  pub stands : {kind event : ℤ} (s : Standing) → kind ≡ h .kind → event ≡ h .event → s ≡ standingIn kind event
+      → sorted choice h fields s ≡ begun choice (six h fields)
+  stands s k e is = rw (is, k, e, by-standing)
 
 -- ---- from the head
 

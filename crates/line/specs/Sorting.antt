@@ -1,7 +1,12 @@
--- What the code's words for a message and a role mean.
+-- What the code's words for a message and a role mean, and where an event counts.
+use mathlib.Core.Bool.{cond}
 use mathlib.Core.Option.{Option, none, some}
+use lib.IntN.{ℤ}
+use Rattle.paper.specs.Events.{listedKind, standingOf}
 use Rattle.paper.specs.declared.Message.{Message}
 use Rattle.paper.specs.declared.Role.{Role}
+use Rattle.paper.specs.declared.Standing.{Standing}
+use Rattle.paper.specs.declared.Standing.the-variants as Standing
 use Rattle.line.specs.declared.listed.Cast.{Cast}
 use Rattle.line.specs.declared.listed.Cast.the-variants as Cast
 use Rattle.line.specs.declared.listed.Note.{Note}
@@ -14,3 +19,7 @@ noteOf Nothing = none
 unfoldable pub castOf : Cast → Option Role
 castOf (Cast.Of role) = some role
 castOf Cast.Nothing = none
+
+-- an event counts only in a record type that is listed
+unfoldable pub standingIn : ℤ → ℤ → Standing
+standingIn kind event = cond (listedKind kind) (standingOf event) Standing.Unlisted

@@ -1,6 +1,9 @@
 // A listed line: "then 9, data (5), 10".
+ghost use Prim.Native.Nat.{ℕ};
 ghost use mathlib.Core.Path.{_≡_};
-ghost use Rattle.paper.specs.Line.{placed, messageOf, roleOf, withRole, withData, listedLine};
+ghost use mathlib.Core.List.{List};
+ghost use mathlib.Core.Option.{Option};
+ghost use Rattle.paper.specs.Line.{placed, messageOf, roleOf, withRole, withData, dataOf, listedLine};
 ghost use Rattle.field.specs.Cursor.{restAt};
 ghost use Rattle.signed.specs.Naturals.{numberIn};
 ghost use Rattle.line.specs.Sorting.{noteOf, castOf};
@@ -107,13 +110,18 @@ fn place_of(processor: i64, process: i64) -> Natural
     Natural::Outside
 }
 
-// "then 9"
-pub(crate) fn listed_line(l: &[u8], h: Head, next: usize) -> Line
-    ensures { λ r. ⌜ r ≡ listedLine h (restAt (now (l .entry)) next) ⌝ }
+// "then 9, data (5), 10", of data that were read.
+pub(crate) fn with_values(h: Head, values: Data) -> Line
+    ensures { λ r. ⌜ ((fields : Option (List ℕ)) → values ≡ dataOf (h .count) fields → r ≡ listedLine h fields) ⌝ }
 {
     let Natural::Of(processor) = place_of(h.processor, h.process) else {
         return Line::Refused(Fault::Place);
     };
-    let values = values::read(l, next, h.count);
     with_data(h, processor, parts::part_of(h.kind, h.event), values)
+}
+
+pub(crate) fn listed_line(l: &[u8], h: Head, next: usize) -> Line
+    ensures { λ r. ⌜ r ≡ listedLine h (restAt (now (l .entry)) next) ⌝ }
+{
+    with_values(h, values::read(l, next, h.count))
 }

@@ -2,6 +2,7 @@
 ghost use mathlib.Core.Path.{_≡_};
 ghost use Rattle.paper.specs.Line.{goodEnd, stepOver, unlisted, begun, six};
 ghost use Rattle.field.specs.Cursor.{restAt};
+ghost use Rattle.line.specs.Sorting.{standingIn};
 use crate::listed;
 use paper::Choice;
 use paper::Fault;
@@ -19,7 +20,7 @@ fn good_end(l: &[u8], next: usize, count: usize) -> bool
     next < l.len()
 }
 
-fn step_over(choice: Choice) -> Line
+pub(crate) fn step_over(choice: Choice) -> Line
     ensures { λ r. ⌜ r ≡ stepOver choice ⌝ }
 {
     match choice {
@@ -38,19 +39,22 @@ fn over(choice: Choice, l: &[u8], h: Head, next: usize) -> Line
     Line::Refused(Fault::Form)
 }
 
+// An event of a record type that is not listed is not looked at.
+pub(crate) fn standing(kind: i64, event: i64) -> Standing
+    ensures { λ r. ⌜ r ≡ standingIn kind event ⌝ }
+{
+    if parts::listed_kind(kind) {
+        return events::standing(event);
+    }
+    Standing::Unlisted
+}
+
 pub(crate) fn sort_line(choice: Choice, l: &[u8], h: Head, next: usize) -> Line
     ensures { λ r. ⌜ r ≡ begun choice (six h (restAt (now (l .entry)) next)) ⌝ }
 {
-    let kind = h.kind;
-    if parts::listed_kind(kind) {
-        let event = h.event;
-        match events::standing(event) {
-            Standing::Listed => listed::listed_line(l, h, next),
-            Standing::Message => listed::listed_line(l, h, next),
-            Standing::NotHandled => Line::Refused(Fault::NotHandled),
-            Standing::Unlisted => over(choice, l, h, next),
-        }
-    } else {
-        over(choice, l, h, next)
+    match standing(h.kind, h.event) {
+        Standing::Listed | Standing::Message => listed::listed_line(l, h, next),
+        Standing::NotHandled => Line::Refused(Fault::NotHandled),
+        Standing::Unlisted => over(choice, l, h, next),
     }
 }

@@ -1,4 +1,4 @@
--- The first line from a place on, where its LF was searched for.
+-- The first line from a place on: by the place, and where its LF was searched for.
 use Prim.Native.Nat.{ℕ, suc, _+_, _-_, _≤_, _<_}
 use mathlib.Core.Path.{_≡_, _∙_}
 use mathlib.Core.List.{List}
@@ -6,10 +6,24 @@ use native.Mathlib.Numerals.{add-one}
 use native.Mathlib.Nat.{add-suc}
 use native.Mathlib.Omega.{arith}
 use lib.ListN.{length, take, drop, length-drop}
-use lib.Seq.{take-length, take-all, drop-drop}
+use lib.Seq.{take-length, take-all, drop-drop, length-take-le}
 use Rattle.bytes.specs.Bytes.{indexOf, slice}
 use Rattle.paper.specs.Reading.{unended, ended, linesOf}
+use Rattle.reading.specs.Places.{lineAt, nextLine}
 use Rattle.reading.proofs.Lines.{first-line, no-line}
+
+-- an LF from here on
+module _ (s : List ℕ) (at : ℕ) (near : nextLine s at ≤ length s) where
+  pub ended-at : linesOf (drop at s) ≡ ended (lineAt s at) (linesOf (drop (nextLine s at) s))
+  unfolding lineAt nextLine
+  ended-at =
+      let on : drop (suc (indexOf 10 (drop at s))) (drop at s) ≡ drop (at + indexOf 10 (drop at s) + 1) s =
+      rw (add-one, ← add-suc) (drop-drop (suc (indexOf 10 (drop at s))) at s) in
+      first-line (drop at s) (simp length-drop (omega arith)) ∙ rw on
+
+  pub next-at : at + length (lineAt s at) + 1 ≡ nextLine s at
+  unfolding lineAt nextLine
+  next-at = rw (length-take-le (indexOf 10 (drop at s)) (drop at s) (simp length-drop (omega arith)))
 
 module _ (s : List ℕ) (at end : ℕ) (found : end ≡ at + indexOf 10 (slice at (length s) s)) where
   pub found-at : end ≡ at + indexOf 10 (drop at s)
@@ -22,12 +36,13 @@ module _ (s : List ℕ) (at end : ℕ) (found : end ≡ at + indexOf 10 (slice a
       rw all (no-line (drop at s) (simp length-drop (omega arith)) (simp length-drop (omega (arith, found-at))))
 
   -- an LF at `end`
-  module _ (is-line : end ≡ length s → ⊥) (within : end ≤ length s) where
-    bytes-here : take (end - at) (drop at s) ≡ take (indexOf 10 (drop at s)) (drop at s)
-    bytes-here = let e : end - at ≡ indexOf 10 (drop at s) = omega (arith, found-at) in rw e
+  pub line-here : take (end - at) (drop at s) ≡ lineAt s at
+  unfolding lineAt
+  line-here = let e : end - at ≡ indexOf 10 (drop at s) = omega (arith, found-at) in rw e
 
-    bytes-behind : drop (suc (indexOf 10 (drop at s))) (drop at s) ≡ drop (end + 1) s
-    bytes-behind = rw (found-at, add-one, ← add-suc) (drop-drop (suc (indexOf 10 (drop at s))) at s)
+  pub next-here : end + 1 ≡ nextLine s at
+  unfolding nextLine
+  next-here = rw found-at
 
-    pub ended-here : linesOf (drop at s) ≡ ended (take (end - at) (drop at s)) (linesOf (drop (end + 1) s))
-    ended-here = first-line (drop at s) (simp length-drop (omega (arith, found-at))) ∙ rw (← bytes-here, bytes-behind)
+  pub ended-here : (end ≡ length s → ⊥) → end ≤ length s → linesOf (drop at s) ≡ ended (take (end - at) (drop at s)) (linesOf (drop (end + 1) s))
+  ended-here is-line within = rw (line-here, next-here) (ended-at s at (omega (arith, next-here)))

@@ -2,3 +2,4 @@ pub mod Retimed
 pub mod Joined
 pub mod Tidy
 pub mod Starts
+pub mod Places

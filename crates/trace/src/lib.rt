@@ -1,5 +1,8 @@
 // A trace read line by line into the records' store. What a line comes to is the crate line's to say; here stand the order of the
-// lines, the last listed time of each processor (11), the number of listed records (12), and where the reading ends.
+// lines, the last listed time of each processor (11), the number of listed records (12), and where the reading ends. The quick loop goes as far
+// as it can, and the one here goes on from there, step by step: to the end of a good trace, or to the line that is refused.
+mod quick;
+
 ghost use mathlib.Core.Path.{_≡_};
 ghost use Rattle.trace.specs.Read.{ReadInto};
 use paper::Choice;
@@ -20,10 +23,11 @@ pub fn read_trace(choice: Choice, s: &[u8], store: &mut [u32]) -> Read
 {
     let most = store::capacity(store);
     let mut last: [i64; 64] = [-999_999_999_999_999; 64];
-    let mut listed: usize = 0;
-    let mut passed: usize = 0;
-    let mut at: usize = 0;
-    let mut n: usize = 1;
+    let begun = quick::lines(choice, s, most, store, &mut last);
+    let mut listed = begun.listed;
+    let mut passed = begun.passed;
+    let mut at = begun.at;
+    let mut n = begun.line;
     while at < s.len() {
         let end = bytes::scan::find(s, at, s.len(), 10);
         if end == s.len() {

@@ -1,49 +1,16 @@
 -- `line::listed::listed_line` meets its contract.
 use borrow.Author.Needs.{needs}
-use mathlib.Core.Path.{_∙_}
-use Rattle.line.proofs.Parts.{no-place, good-place}
 use Rattle.line.proofs.listed.listed_line.Statement.{statement}
 use Rattle.line.proofs.listed.listed_line.Tie as tie
-
-place-of-requires : tie.Need-place-of-requires
-place-of-requires c κs = search needs
-
-enum-known-processor : tie.Need-enum-known-processor
-enum-known-processor c = search needs
-
-enum-told : tie.Need-enum-told
-enum-told c = search needs
-
-returns : tie.Need-returns
-returns c = no-place _ _ _ (c .before .before .place-of .ensures ∙ search needs) (c .enum-told .given .1)
 
 read-requires : tie.Need-read-requires
 read-requires c κs = search needs
 
-part-of-requires : tie.Need-part-of-requires
-part-of-requires c κs = search needs
+with-values-requires : tie.Need-with-values-requires
+with-values-requires c κs = search needs
 
-with-data-requires : tie.Need-with-data-requires
-with-data-requires c κs = search needs
-
-returns-2 : tie.Need-returns-2
-returns-2 c =
-    let part = c .before .part-of .ensures in
-    let c₄ = c .before .before .before .before in
-    let values = c₄ .read .ensures in
-    let processor = c₄ .before .before .processor .given .1 in
-    let place = c₄ .before .before .before .before .place-of .ensures in
-    c .with-data .ensures ∙ good-place _ _ _ (place ∙ search needs) _ processor _ (search needs) (search needs) part values
+returns : tie.Need-returns
+returns c = c .with-values .ensures _ (c .before .read .ensures)
 
 pub listed-line-spec : {M : Type 1} → statement M
-listed-line-spec =
-    tie.close
-    (tie.spec
-    place-of-requires
-    enum-known-processor
-    enum-told
-    returns
-    read-requires
-    part-of-requires
-    with-data-requires
-    returns-2)
+listed-line-spec = tie.close (tie.spec read-requires with-values-requires returns)

@@ -1,0 +1,9 @@
+-- The laws of the quick readers.
+pub mod Runs
+pub mod Sums
+pub mod Signs
+pub mod Moves
+pub mod Opens
+pub mod Takes
+pub mod Tails
+pub mod Outcome

@@ -1,0 +1,108 @@
+-- What the answers say of the line in which the cursor stands.
+use Prim.Native.Nat.{ℕ, _+_, _≤_}
+use mathlib.Core.Path.{_≡_}
+use mathlib.Core.List.{List}
+use mathlib.Core.Bool.{Bool, true, false, cond}
+use mathlib.Core.Option.{Option, none, some}
+use lib.ListN.{length, drop}
+use lib.IntN.{ℤ, pos}
+use lib.Dec.{eqb}
+use Rattle.bytes.specs.Bytes.{indexOf}
+use Rattle.paper.specs.Line.{first, firstOf, countOf, Begun, six, placeOf, headOf, valuesOf, asWholes, asOthers, dataOf, goodEnd}
+use Rattle.paper.specs.declared.Field.{Field}
+use Rattle.paper.specs.declared.Data.{Data}
+use Rattle.paper.specs.declared.Data.the-variants.{Three, Others}
+use Rattle.field.specs.Cursor.{readAs}
+use Rattle.field.specs.declared.Form.{Form}
+use Rattle.field.specs.declared.Form.the-variants.{Whole, Time}
+use Rattle.reading.specs.Places.{lineAt, nextLine}
+use Rattle.quick.specs.declared.Begins.{Begins}
+use Rattle.quick.specs.declared.Begins.the-variants as Begins
+use Rattle.quick.specs.declared.Holds.{Holds}
+use Rattle.quick.specs.declared.Holds.the-variants as Holds
+use Rattle.quick.specs.declared.Ends.{Ends}
+use Rattle.quick.specs.declared.Ends.the-variants as Ends
+use Rattle.quick.specs.declared.head.Counted.{Counted}
+use Rattle.quick.specs.declared.head.Counted.the-variants as Counted
+use Rattle.quick.specs.declared.number.Number.{Number}
+use Rattle.quick.specs.declared.number.Number.the-variants as Number
+
+-- ---- behind a field: the line has ended, or goes on
+
+-- the byte that is due
+unfoldable pub stopOf : Bool → ℕ
+stopOf true = 10
+stopOf false = 32
+
+-- the fields that follow: none, or those from the cursor on
+unfoldable pub fieldsFrom : List ℕ → Bool → ℕ → Option (List ℕ)
+fieldsFrom s true at = none
+fieldsFrom s false at = some (lineAt s at)
+
+-- where the next line starts: at the cursor, or where the cursor's line ends
+unfoldable pub endFrom : List ℕ → Bool → ℕ → ℕ
+endFrom s true at = at
+endFrom s false at = nextLine s at
+
+-- what a line from a place on comes to, with what follows and where
+pub record Told {A : Type 0} (said : A) (more : Option (List ℕ) → A) (s : List ℕ) (at : ℕ) (ended : Bool) (next : ℕ) : Type 0 where
+  pub reads : said ≡ more (fieldsFrom s ended next)
+  pub same : nextLine s at ≡ endFrom s ended next
+  pub near : next ≤ length s
+
+-- ---- the six fields
+
+-- the first field in a form
+unfoldable pub ValueAt : (List ℕ → Field) → List ℕ → ℕ → Bool → Number → Type 0
+ValueAt form s at ended (Number.Of v next) = Told (firstOf form (some (lineAt s at))) (first v) s at ended next
+ValueAt form s at ended Number.Doubt = Unit
+
+unfoldable pub CountAt : List ℕ → ℕ → Counted → Type 0
+CountAt s at (Counted.Of n ended next) = Told (firstOf countOf (some (lineAt s at))) (first (pos n)) s at ended next
+CountAt s at Counted.Doubt = Unit
+
+unfoldable pub OpensAt : Begun → List ℕ → ℕ → Begins → Type 0
+OpensAt said s at (Begins.Six h ended next) = Told said (six h) s at ended next
+OpensAt said s at Begins.Doubt = Unit
+
+-- the last three of them
+unfoldable pub PlaceAt : ℤ → ℤ → ℤ → List ℕ → ℕ → Begins → Type 0
+PlaceAt kind event time s at = OpensAt (placeOf kind event time (some (lineAt s at))) s at
+
+unfoldable pub BeginsAt : List ℕ → ℕ → Begins → Type 0
+BeginsAt s at = OpensAt (headOf (lineAt s at)) s at
+
+-- ---- what follows them
+
+-- what is told of the fields from a cursor on, and where the next line starts
+pub record Ended {A : Type 0} (said there : A) (s : List ℕ) (ended : Bool) (at next : ℕ) : Type 0 where
+  pub is : said ≡ there
+  pub ends : endFrom s ended at ≡ next
+  pub near : at ≤ length s → next ≤ length s
+
+-- n values in a form, as the descriptor has them
+unfoldable pub inForm : Form → ℕ → Option (List ℕ) → Data
+inForm Whole n fields = asWholes (valuesOf (readAs Whole) n fields)
+inForm Time n fields = asOthers (valuesOf (readAs Time) n fields)
+
+-- what is kept of them: the last three, where they are all and whole numbers
+unfoldable pub lastOf : Form → ℕ → ℤ → ℤ → ℤ → Data
+lastOf Whole n a b c = cond (eqb n 3) (Three a b c) Others
+lastOf Time n a b c = Others
+
+unfoldable pub DataAt : (Option (List ℕ) → Data) → List ℕ → Bool → ℕ → Holds → Type 0
+DataAt there s ended at (Holds.Of values next) = Ended values (there (fieldsFrom s ended at)) s ended at next
+DataAt there s ended at Holds.Doubt = Unit
+
+unfoldable pub HoldsAt : List ℕ → Bool → ℕ → ℕ → Holds → Type 0
+HoldsAt s ended at n = DataAt (dataOf n) s ended at
+
+unfoldable pub EndsAt : List ℕ → Bool → ℕ → ℕ → Ends → Type 0
+EndsAt s ended at n (Ends.At next) = Ended true (goodEnd n (fieldsFrom s ended at)) s ended at next
+EndsAt s ended at n Ends.Doubt = Unit
+
+-- no LF between two places
+pub record Clear (s : List ℕ) (at to : ℕ) : Type 0 where
+  pub index : at + indexOf 10 (drop at s) ≡ to + indexOf 10 (drop to s)
+  pub low : at ≤ to
+  pub high : to ≤ length s
