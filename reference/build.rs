@@ -1,4 +1,4 @@
-//! Links bench with an older library, too, where the feature `before` asks for it.
+//! Links bench and shares with an older library, too, where the feature `before` asks for it.
 
 use std::env;
 
@@ -13,5 +13,7 @@ fn main() {
         return;
     };
     println!("cargo::rerun-if-changed={object}");
-    println!("cargo::rustc-link-arg-bin=bench={object}");
+    for program in ["bench", "shares"] {
+        println!("cargo::rustc-link-arg-bin={program}={object}");
+    }
 }

@@ -1,7 +1,7 @@
 //! An older library as a judge. `reference/bench` has given its function another name, so that it can be
 //! linked beside the new one.
 
-use crate::archive::judge_by;
+use super::archive::judge_by;
 use cantuvesh::raw::Library;
 use reference::{Answer, Asked, Inputs};
 

@@ -1,6 +1,6 @@
 //! A library of version 0.1 as a judge, in the place of `before.rs`: it was called with the choice alone.
 
-use crate::archive::answer_of;
+use super::archive::answer_of;
 use cantuvesh::raw;
 use reference::{Answer, Asked, Inputs};
 

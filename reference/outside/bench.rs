@@ -2,27 +2,20 @@
 //! `bench MILLISECONDS [PROGRAM [BEFORE]]`, where each row is measured for so long and PROGRAM is
 //! Cantuvesh's own. An older library, linked by the feature `before`, and BEFORE, an older program, are
 //! measured in the same turns.
-//!
-//! All of them run on the same buffers, which are not cleared between calls.
 
-mod archive;
-#[cfg(feature = "before")]
-#[cfg_attr(feature = "before-levels", path = "before_levels.rs")]
-mod before;
+mod calls;
 mod programs;
 mod turns;
 
+use calls::{Calls, Judge, judges};
+use reference::Answer;
 use reference::generator::workload::{self, Workload};
-use reference::{Answer, Inputs, MAX_BYTES, MAX_RECORDS, judge};
 use std::convert::Infallible;
 use std::env;
 use std::path::Path;
 use std::process::ExitCode;
-use std::time::{Duration, Instant};
-use turns::{Row, Sides};
-
-/// A sample is so many calls that it takes about this long.
-const SAMPLE: Duration = Duration::from_micros(500);
+use std::time::Duration;
+use turns::Row;
 
 fn main() -> ExitCode {
     match measure_all() {
@@ -54,50 +47,12 @@ fn measure_all() -> Result<(), String> {
     Ok(())
 }
 
-type Judge = fn(Inputs) -> Answer;
-
-/// The older library, if it can be asked what this workload asks.
-#[cfg(feature = "before")]
-fn before(workload: &Workload) -> Option<Judge> {
-    before::knows(workload.asked).then_some(before::judge)
-}
-#[cfg(not(feature = "before"))]
-fn before(_: &Workload) -> Option<Judge> {
-    None
-}
-
 fn measure(workload: &Workload, time: Duration) -> Result<Row, String> {
-    let judges: Sides<Judge> = Sides { ours: archive::judge, before: before(workload), reference: judge };
-    let mut times = vec![0; MAX_RECORDS];
-    let mut room = vec![0; MAX_BYTES + MAX_RECORDS];
-    let mut call = |judge: Judge| -> Answer {
-        let &Workload { asked, ref trace, ref latencies, wanted, .. } = workload;
-        judge(Inputs { trace, latencies, asked, times: &mut times, wanted, room: &mut room })
-    };
-    let expected = call(judge);
-    for (side, &held) in judges.held_to_it() {
-        let given = call(held);
-        if given != expected {
-            let name = workload.name;
-            return Err(format!(
-                "{name}: answers differ, {side} and reference:\n  {given:?}\n  {expected:?}"
-            ));
-        }
-    }
-
-    let start = Instant::now();
-    call(judge);
-    let calls = (SAMPLE.as_nanos() / start.elapsed().as_nanos().max(1)).max(1) as u32;
-    let sample = |&judge: &Judge| -> Result<f64, Infallible> {
-        let start = Instant::now();
-        for _ in 0..calls {
-            std::hint::black_box(call(judge));
-        }
-        Ok(start.elapsed().as_secs_f64() * 1e6 / f64::from(calls))
-    };
-    let Ok(row) = Row::measured(workload.name, &judges, time, sample);
+    let mut calls = Calls::of(workload)?;
+    let sample = |&judge: &Judge| -> Result<f64, Infallible> { Ok(calls.sample(judge)) };
+    let Ok(row) = Row::measured(workload.name, &judges(workload), time, sample);
     row.print();
-    println!("    {}", described(workload, &expected));
+    println!("    {}", described(workload, &calls.expected));
     Ok(row)
 }
 

@@ -7,7 +7,7 @@ use std::iter;
 use std::time::{Duration, Instant};
 
 /// So many samples are taken of each side, however long they last.
-const LEAST_SAMPLES: usize = 20;
+pub const LEAST_SAMPLES: usize = 20;
 
 /// Cantuvesh, an older one where there is one, and the reference: what is run, or the samples of it.
 #[derive(Default)]
@@ -95,7 +95,7 @@ fn part(values: &[f64], percent: usize) -> f64 {
     sorted[(sorted.len() - 1) * percent / 100]
 }
 
-fn median(values: &[f64]) -> f64 {
+pub fn median(values: &[f64]) -> f64 {
     part(values, 50)
 }
 

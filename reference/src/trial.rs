@@ -2,6 +2,7 @@
 //! untouched ones and those around them among them.
 
 use crate::generator::Case;
+use crate::generator::stroke::{self, LONGEST_START};
 use crate::{Answer, Choice, Inputs, form, message, trace};
 use std::collections::BTreeMap;
 use std::fmt;
@@ -109,6 +110,15 @@ pub fn events_of_messages(trace: &[u8]) -> Vec<(i64, i64)> {
     messages.filter_map(|(send, receive)| Some((event(send)?, event(receive)?))).collect()
 }
 
+/// Whether most lines of a trace begin so far before its end that a quick reader can go over their first six
+/// fields without looking for it.
+fn is_mostly_far_from_end(trace: &[u8]) -> bool {
+    let Some(last_start) = trace.len().checked_sub(LONGEST_START) else { return false };
+    let ends = |part: &[u8]| part.iter().filter(|&&byte| byte == b'\n').count();
+    // One line begins the trace, and one stands behind each end.
+    2 * (1 + ends(&trace[..last_start])) > ends(trace)
+}
+
 /// How often each number and each verdict came up, and how often each kind of trace.
 #[derive(Clone, Debug, Default, PartialEq, Eq)]
 pub struct Tally {
@@ -118,6 +128,10 @@ pub struct Tally {
     pub levels_met: u64,
     /// Accepted traces with a message that was begun, or that finished later.
     pub nonblocking: u64,
+    /// Accepted traces most of whose lines, which are all good, a quick reader can take.
+    pub quick: u64,
+    /// Traces with one line that is one byte off a good one, in calls that come to reading lines.
+    pub one_byte_off: u64,
     pub kinds: BTreeMap<&'static str, u64>,
 }
 
@@ -133,6 +147,8 @@ impl Tally {
         let blocking = |events: (i64, i64)| matches!(events, (-21, -51 | -52));
         let all_block = |case: &Case| events_of_messages(&case.trace).into_iter().all(blocking);
         self.nonblocking += u64::from(answer.matched > 0 && !all_block(case));
+        self.quick += u64::from(answer.number == 0 && is_mostly_far_from_end(&case.trace));
+        self.one_byte_off += u64::from(case.kind == stroke::KIND && !matches!(answer.number, 1..=4));
         *self.kinds.entry(case.kind).or_default() += 1;
     }
 
@@ -145,9 +161,13 @@ impl Tally {
         let verdicts = (1..=3).map(|verdict| (format!("verdict {verdict}"), self.verdicts[verdict], 500));
         let kinds_of_accepted = [("levels met", self.levels_met), ("nonblocking messages", self.nonblocking)]
             .map(|(name, times)| (name.to_string(), times, 500));
+        // What a quick reader takes and what it must not take, each in a tenth of the cases.
+        let good_or_nearly = [("quick", self.quick), ("one byte off", self.one_byte_off)]
+            .map(|(name, times)| (name.to_string(), times, 20_000));
         numbers
             .chain(verdicts)
             .chain(kinds_of_accepted)
+            .chain(good_or_nearly)
             .filter(|&(_, times, floor)| times < floor)
             .map(|(name, times, floor)| format!("{name} came up {times} times, {floor} are asked"))
             .collect()
@@ -166,6 +186,8 @@ impl fmt::Display for Tally {
             writeln!(out, "verdict {verdict:<7}{:>8}", self.verdicts[verdict])?;
         }
         writeln!(out, "levels met     {:>8}", self.levels_met)?;
-        writeln!(out, "nonblocking    {:>8}", self.nonblocking)
+        writeln!(out, "nonblocking    {:>8}", self.nonblocking)?;
+        writeln!(out, "quick          {:>8}", self.quick)?;
+        writeln!(out, "one byte off   {:>8}", self.one_byte_off)
     }
 }

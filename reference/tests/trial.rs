@@ -1,10 +1,10 @@
 //! The comparison itself tried: judges that are wrong in one way each must all be found out.
 
-use reference::generator::Case;
+use reference::generator::{Case, flat_table};
 use reference::line::Role;
 use reference::refusal::{LEVELS, NO_TIMES, RECORDS};
 use reference::trial::{Call, Tally, difference, events_of_messages};
-use reference::{Answer, Asked, Choice, Inputs, PROCESSORS, clock, judge, message, trace};
+use reference::{Answer, Asked, Choice, Inputs, MAX_RECORDS, PROCESSORS, clock, judge, message, trace};
 use std::collections::{BTreeSet, HashMap};
 
 const CASES: u64 = 2_000;
@@ -523,6 +523,42 @@ fn nothing_comes_up_too_seldom() {
     }
     print!("{tally}");
     assert_eq!(tally.too_seldom(), [""; 0]);
+}
+
+/// A run with too few traces that are good, or good but for one byte, says so.
+#[test]
+fn too_few_good_or_nearly_good_traces_are_told() {
+    let often = Tally { numbers: [500; 18], verdicts: [500; 4], levels_met: 500, ..Tally::default() };
+    let enough = Tally { nonblocking: 500, quick: 20_000, one_byte_off: 20_000, ..often };
+    assert_eq!(enough.too_seldom(), [""; 0]);
+    assert_eq!(
+        Tally { quick: 19_999, one_byte_off: 0, ..enough }.too_seldom(),
+        ["quick came up 19999 times, 20000 are asked", "one byte off came up 0 times, 20000 are asked"]
+    );
+}
+
+/// A quick reader takes no line that begins nearer to the end than six long fields, and most have to be taken.
+#[test]
+fn what_is_read_quickly_is_counted() {
+    let counted = |lengths: &[usize]| {
+        let lines = lengths.iter().map(|length| format!("{:x<length$}\n", "-5 0 0.000000 0 0 1 "));
+        let trace = lines.collect::<String>().into_bytes();
+        let asked = Asked::with_levels_off(2);
+        let case = Case {
+            trace,
+            asked,
+            latencies: flat_table(0),
+            times: MAX_RECORDS,
+            wanted: false,
+            ..Case::from_seed(0)
+        };
+        let mut tally = Tally::default();
+        tally.count(&case, &Call::default().run(&case, judge));
+        assert_eq!(tally.numbers[0], 1);
+        tally.quick == 1
+    };
+    assert!(!counted(&[71]) && counted(&[72]));
+    assert!(!counted(&[30, 72 - 31]) && !counted(&[72, 30]) && counted(&[100, 72, 30]));
 }
 
 /// Every number and every verdict comes up, and a seed gives the same case again.

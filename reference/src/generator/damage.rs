@@ -101,8 +101,11 @@ fn spoil_line(random: &mut Random, line: &mut Vec<u8>) {
             fields.swap(place, spoiled);
         }
         7 if fields.len() > 5 => {
-            fields[5] =
-                random.pick(&[&b"0"[..], b"1", b"2", b"3", b"4", b"16", b"17", b"999", b"1000"]).to_vec();
+            const COUNTS: [&[u8]; 12] = [
+                b"0", b"1", b"2", b"3", b"4", b"16", b"17", b"999", b"1000", b"1000000000", b"0000000003",
+                b"4294967299",
+            ];
+            fields[5] = random.pick(&COUNTS).to_vec();
         }
         8 if fields.len() > 6 => fields[6] = random.pick(&[&b"2"[..], b"5", b"3", b"02", b"\"%d\""]).to_vec(),
         9 if fields.len() > 2 => {

@@ -2,9 +2,10 @@
 //!
 //! [`run`] makes sound runs and looks at them through wrong clocks, [`shape`] makes chains, rings
 //! and what else has a known shape, [`nonblocking`] gives messages of both to calls that do not wait,
-//! [`damage`] spoils them, [`near`] and [`soup`] put lines together from good and bad parts, [`limit`]
-//! goes to the ends of every size and number, [`level`] expects tracing levels and marks them, and
-//! [`call`] is the rest of a call. The benchmark's traces are in [`workload`], and stay as they are.
+//! [`damage`] spoils them, [`stroke`] by one byte alone, [`near`] and [`soup`] put lines together from good
+//! and bad parts, [`limit`] goes to the ends of every size and number, [`level`] expects tracing levels and
+//! marks them, and [`call`] is the rest of a call. The benchmark's traces are in [`workload`], and stay as
+//! they are.
 
 mod call;
 mod damage;
@@ -17,6 +18,7 @@ pub mod record;
 mod run;
 pub mod shape;
 mod soup;
+pub mod stroke;
 pub mod workload;
 
 use crate::{Answer, Asked, Inputs, LATENCIES, MAX_LATENCY, MAX_RECORDS, judge};
@@ -84,15 +86,16 @@ impl Case {
 
 fn draft(random: &mut Random) -> Draft {
     match random.below(1000) {
-        0..290 => run::skewed(random),
-        290..320 => run::at_the_end_of_time(random),
-        320..340 => limit::times(random),
-        340..370 => shape::any_chain(random),
-        370..440 => shape::any_ring(random),
-        440..550 => damage::in_messages(random),
-        550..670 => damage::in_text(random),
-        670..770 => near::lines(random),
-        770..980 => soup::lines(random),
+        0..210 => run::skewed(random),
+        210..235 => run::at_the_end_of_time(random),
+        235..255 => limit::times(random),
+        255..280 => shape::any_chain(random),
+        280..335 => shape::any_ring(random),
+        335..420 => damage::in_messages(random),
+        420..475 => damage::in_text(random),
+        475..775 => stroke::trace(random),
+        775..840 => near::lines(random),
+        840..980 => soup::lines(random),
         980..988 => limit::records(random),
         988..996 => limit::bytes(random),
         _ => soup::noise(random),

@@ -1,7 +1,7 @@
 //! Lines that are good or bad by a hair: every start of a line with every end of one.
 
 use super::random::Random;
-use super::record::joined;
+use super::record::{good_lines_behind, joined};
 use super::{Draft, flat_table};
 use crate::form::write_time;
 
@@ -80,15 +80,18 @@ const ENDS: [&str; 61] = [
     "0 1 1 x",
 ];
 
-/// One to three such lines, their times in order but for now and then.
+/// One to three such lines, their times in order but for now and then, and often good ones behind them.
 pub fn lines(random: &mut Random) -> Draft {
     let mut time = random.between(-2, 2);
-    let lines: Vec<Vec<u8>> = (0..random.pick(&[1, 1, 2, 3]))
+    let mut lines: Vec<Vec<u8>> = (0..random.pick(&[1, 1, 2, 3]))
         .map(|_| {
             time += random.pick(&[0, 1, 1, 5]);
             line(random, time)
         })
         .collect();
+    if random.chance(60) {
+        lines.extend(good_lines_behind(random));
+    }
     Draft { kind: "near", trace: joined(&lines), latencies: flat_table(0) }
 }
 

@@ -102,6 +102,13 @@ pub fn trace_of(records: &[Record]) -> Vec<u8> {
     joined(&lines)
 }
 
+/// A few good lines to stand behind any others: a reader that goes quickly where the end of the trace is far
+/// goes so over those. No others are of this processor, so that no time is below the last.
+pub fn good_lines_behind(random: &mut Random) -> Vec<Vec<u8>> {
+    let count = random.between(3, 6);
+    (0..count).map(|place| Record::local(0, place, place, 10).text()).collect()
+}
+
 /// A record of one of the listed events that is no message.
 pub fn any_local(random: &mut Random, time: i64, processor: i64) -> Record {
     const OTHER_EVENTS: [i64; 31] = [

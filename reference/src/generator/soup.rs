@@ -1,7 +1,7 @@
 //! Lines put together field by field from good, awkward and bad ones, and plain noise.
 
 use super::random::Random;
-use super::record::{MESSAGE_EVENTS, RECEIVES, SENDS, joined};
+use super::record::{MESSAGE_EVENTS, RECEIVES, SENDS, good_lines_behind, joined};
 use super::{Draft, flat_table, table};
 
 const RECORD_TYPES: [&str; 4] = ["-2", "-3", "-4", "0"];
@@ -48,14 +48,17 @@ const BAD_TIMES: [&str; 24] = [
     "1:000000",
 ];
 
-/// A few lines. Most are good, so that the later ones are read too.
+/// A few lines. Most are good, so that the later ones are read too, and often some are that stand behind.
 pub fn lines(random: &mut Random) -> Draft {
     let latencies = if random.chance(90) { flat_table(0) } else { table(random) };
     let count = random.pick(&[1, 1, 1, 2, 3, 6, 12]);
     // Now and then only one thing is wrong with each line, now and then much.
     let wrong = random.pick(&[1, 1, 3, 8]);
     let mut clock = random.between(-5, 5);
-    let lines: Vec<Vec<u8>> = (0..count).map(|_| line(random, wrong, &mut clock)).collect();
+    let mut lines: Vec<Vec<u8>> = (0..count).map(|_| line(random, wrong, &mut clock)).collect();
+    if random.chance(50) {
+        lines.extend(good_lines_behind(random));
+    }
     let mut trace = joined(&lines);
     if random.chance(3) {
         trace.pop();

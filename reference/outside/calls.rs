@@ -1,0 +1,84 @@
+//! Calls of the library, of an older one and of the reference, taking turns.
+//!
+//! All of them run on the same buffers, which are not cleared between calls.
+
+#[path = "archive.rs"]
+mod archive;
+#[cfg(feature = "before")]
+#[cfg_attr(not(feature = "before-levels"), path = "before.rs")]
+#[cfg_attr(feature = "before-levels", path = "before_levels.rs")]
+mod before;
+
+use crate::turns::Sides;
+use reference::generator::workload::Workload;
+use reference::{Answer, Inputs, MAX_BYTES, MAX_RECORDS, judge};
+use std::time::{Duration, Instant};
+
+/// A sample is so many calls that it takes about this long.
+const SAMPLE: Duration = Duration::from_micros(500);
+
+pub type Judge = fn(Inputs) -> Answer;
+
+/// The older library, if it can be asked what this workload asks.
+#[cfg(feature = "before")]
+fn before(workload: &Workload) -> Option<Judge> {
+    before::knows(workload.asked).then_some(before::judge)
+}
+#[cfg(not(feature = "before"))]
+fn before(_: &Workload) -> Option<Judge> {
+    None
+}
+
+/// Who judges a workload.
+pub fn judges(workload: &Workload) -> Sides<Judge> {
+    Sides { ours: archive::judge, before: before(workload), reference: judge }
+}
+
+/// A workload that is judged again and again.
+pub struct Calls<'a> {
+    workload: &'a Workload,
+    times: Vec<i64>,
+    room: Vec<u8>,
+    /// So many calls are a sample.
+    many: u32,
+    /// What every side answers.
+    pub expected: Answer,
+}
+
+impl<'a> Calls<'a> {
+    /// Lets every side judge the workload once, and tells where one of them differs from the reference.
+    pub fn of(workload: &'a Workload) -> Result<Calls<'a>, String> {
+        let (times, room) = (vec![0; MAX_RECORDS], vec![0; MAX_BYTES + MAX_RECORDS]);
+        let mut calls = Calls { workload, times, room, many: 1, expected: Answer::default() };
+        let sides = judges(workload);
+        calls.expected = calls.call(sides.reference);
+        for (side, &held) in sides.held_to_it() {
+            let given = calls.call(held);
+            if given != calls.expected {
+                let (name, expected) = (workload.name, calls.expected);
+                return Err(format!(
+                    "{name}: answers differ, {side} and reference:\n  {given:?}\n  {expected:?}"
+                ));
+            }
+        }
+        let start = Instant::now();
+        calls.call(sides.reference);
+        calls.many = (SAMPLE.as_nanos() / start.elapsed().as_nanos().max(1)).max(1) as u32;
+        Ok(calls)
+    }
+
+    fn call(&mut self, judge: Judge) -> Answer {
+        let &Workload { asked, ref trace, ref latencies, wanted, .. } = self.workload;
+        let (times, room) = (&mut self.times, &mut self.room);
+        judge(Inputs { trace, latencies, asked, times, wanted, room })
+    }
+
+    /// The microseconds of one call, by a sample of calls.
+    pub fn sample(&mut self, judge: Judge) -> f64 {
+        let start = Instant::now();
+        for _ in 0..self.many {
+            std::hint::black_box(self.call(judge));
+        }
+        start.elapsed().as_secs_f64() * 1e6 / f64::from(self.many)
+    }
+}
