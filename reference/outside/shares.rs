@@ -127,11 +127,14 @@ impl Parts {
     }
 }
 
+/// One of the parts.
+type Part = fn(&Parts) -> f64;
+
 fn print(name: &str, turns: &[Parts]) {
-    let part = |of: fn(&Parts) -> f64| median(&turns.iter().map(of).collect::<Vec<_>>());
+    let part = |of: Part| median(&turns.iter().map(of).collect::<Vec<_>>());
     let whole = part(|parts| parts.whole);
     println!("    {name:<8}{whole:>7.1} us, one timestamp {:.1} ns", part(|parts| parts.timestamp));
-    let shares: [(&str, fn(&Parts) -> f64); 4] = [
+    let shares: [(&str, Part); 4] = [
         ("timestamps", |parts| parts.timestamps),
         ("the other five fields", |parts| parts.numbers),
         ("the rest of the reading", |parts| parts.other_reading),
