@@ -1,16 +1,16 @@
 -- A cursor moved over a field of the line in which it stands, whose LF nobody looked for: a word that reads well has neither a space nor
 -- an LF in it, so that it is the whole field.
 use Prim.Native.Nat.{ℕ, suc, _+_, _-_, _≤_}
-use mathlib.Core.Path.{_≡_, refl, sym, ap, subst, _∙_}
+use mathlib.Core.Path.{_≡_, refl, ap, subst, _∙_}
 use mathlib.Core.List.{List, [], _∷_, _++_, append-nil}
 use mathlib.Core.Bool.{Bool, true, false}
 use mathlib.Core.Option.{some}
 use native.Mathlib.Omega.{arith}
-use native.Mathlib.Nat.{zero-add, add-zero}
+use native.Mathlib.Nat.{add-zero}
 use lib.ListN.{length, drop, length-append, length-drop}
 use lib.Seq.{take-append-add, take-length}
 use lib.IntN.{ℤ}
-use borrow.Author.Tests.{ne-eqb, le-ltb}
+use borrow.Author.Tests.{le-ltb}
 use Rattle.bytes.specs.Bytes.{indexOf, indexAfter}
 use Rattle.paper.specs.Forms.{wholeOf, timeOf}
 use Rattle.paper.specs.Line.{field, rest, goesOn, first, firstOf}
@@ -22,18 +22,13 @@ use Rattle.field.specs.Cursor.{readAs}
 use Rattle.field.specs.declared.Form.{Form}
 use Rattle.field.specs.declared.Form.the-variants.{Whole, Time}
 use Rattle.reading.specs.Places.{lineAt, nextLine}
-use Rattle.reading.proofs.Fields.{field-of, rest-of}
+use Rattle.reading.proofs.Fields.{index-past, field-of, rest-of}
 use Rattle.quick.specs.declared.number.Number.{Number}
 use Rattle.quick.specs.declared.number.Number.the-variants.{Of, Doubt}
 use Rattle.quick.specs.Words.{Stands, FieldAt}
 use Rattle.quick.specs.Lines.{stopOf, fieldsFrom, endFrom, Told, ValueAt}
 
--- ---- a word without a byte, before what has it
-
-index-past : (b : ℕ) (w r : List ℕ) → Free b w → indexOf b (w ++ r) ≡ length w + indexOf b r
-unfolding indexOf Free indexAfter
-index-past b [] r h = sym (zero-add (indexOf b r))
-index-past b (x ∷ w) r h = rw (ne-eqb x b (h .0), index-past b w r (h .1)) (omega arith)
+-- ---- a word without a byte
 
 index-none : (b : ℕ) (w : List ℕ) → Free b w → indexOf b w ≡ length w
 unfolding indexOf

@@ -1,13 +1,14 @@
 -- A field, the space that ends it, and what follows.
-use Prim.Native.Nat.{ℕ, zero, suc, _+_, _≤_, _<_}
+use Prim.Native.Nat.{ℕ, suc, _+_, _<_}
 use mathlib.Core.Path.{_≡_, refl, sym, ap, _∙_}
 use mathlib.Core.List.{List, [], _∷_, _++_}
-use mathlib.Core.Bool.{Bool, true, false, cond, _&&_}
-use mathlib.Core.Option.{Option, none, some}
+use mathlib.Core.Bool.{Bool, true, false}
+use mathlib.Core.Option.{some}
 use native.Mathlib.Omega.{arith}
+use native.Mathlib.Nat.{zero-add, add-zero}
 use lib.ListN.{length, take, drop, length-append}
 use lib.Seq.{take-append-seam}
-use lib.Dec.{ltb, eqb}
+use lib.Dec.{eqb}
 use borrow.Author.Tests.{lt-ltb, ltb-true, eq-eqb, ne-eqb, eqb-true, eqb-false}
 use Rattle.bytes.specs.Bytes.{indexOf, indexAfter}
 use Rattle.paper.specs.Line.{field, after, goesOn, rest}
@@ -16,10 +17,14 @@ use Rattle.forms.specs.Free.{Free}
 -- ---- the first b
 
 -- after bytes that are free of it
+pub index-past : (b : ℕ) (f r : List ℕ) → Free b f → indexOf b (f ++ r) ≡ length f + indexOf b r
+unfolding indexOf Free indexAfter
+index-past b [] r h = sym (zero-add (indexOf b r))
+index-past b (x ∷ f) r h = rw (ne-eqb x b (h .0), index-past b f r (h .1)) (omega arith)
+
 index-free : (b : ℕ) (f r : List ℕ) → Free b f → indexOf b (f ++ (b ∷ r)) ≡ length f
-unfolding indexOf Free
-index-free b [] r h = rw (eq-eqb b b refl)
-index-free b (x ∷ f) r h = rw (ne-eqb x b (h .0), index-free b f r (h .1))
+unfolding indexOf indexAfter
+index-free b f r h = index-past b f (b ∷ r) h ∙ rw (eq-eqb b b refl) (add-zero (length f))
 
 -- there is none before it
 pub free-before : (b : ℕ) (l : List ℕ) → Free b (take (indexOf b l) l)

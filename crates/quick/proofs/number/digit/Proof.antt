@@ -3,7 +3,7 @@ use mathlib.Core.Path.{sym, _∙_}
 use native.Mathlib.Omega.{arith}
 use Rattle.quick.specs.Words.{FieldAt, Within}
 use Rattle.quick.proofs.Runs.{a-digit}
-use Rattle.quick.proofs.Signs.{digit-here}
+use Rattle.quick.proofs.Stops.{digit-here}
 use borrow.Author.Needs.{needs}
 use Rattle.quick.proofs.number.digit.Statement.{statement}
 use Rattle.quick.proofs.number.digit.Tie as tie

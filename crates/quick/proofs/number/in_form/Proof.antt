@@ -1,6 +1,6 @@
 -- One form or the other.
 use Rattle.field.specs.Cursor.{readAs}
-use Rattle.quick.proofs.Signs.{wider}
+use Rattle.quick.proofs.Stops.{wider}
 use borrow.Author.Needs.{needs}
 use Rattle.quick.proofs.number.in_form.Statement.{statement}
 use Rattle.quick.proofs.number.in_form.Tie as tie

@@ -3,7 +3,8 @@ use mathlib.Core.Path.{refl}
 use native.Mathlib.Omega.{arith}
 use Rattle.paper.specs.Forms.{wholeSize, wholeOf}
 use Rattle.forms.proofs.Wholes.{whole-small}
-use Rattle.quick.proofs.Signs.{whole-size, within, started, signed-here}
+use Rattle.quick.proofs.Sizes.{whole-size}
+use Rattle.quick.proofs.Signs.{within, started, signed-here}
 use borrow.Author.Needs.{needs}
 use Rattle.quick.proofs.number.signed_whole.Statement.{statement}
 use Rattle.quick.proofs.number.signed_whole.Tie as tie

@@ -1,7 +1,7 @@
 -- The byte is asked, where there is a number.
 use native.Mathlib.Omega.{arith}
 use Rattle.quick.specs.Words.{stoppedBy}
-use Rattle.quick.proofs.Signs.{inside-of, stop-there, stop-not}
+use Rattle.quick.proofs.Stops.{inside-of, stop-there, stop-not}
 use borrow.Author.Needs.{needs}
 use Rattle.quick.proofs.number.stopped.Statement.{statement}
 use Rattle.quick.proofs.number.stopped.Tie as tie

@@ -1,6 +1,6 @@
 -- A time, and the byte behind it.
 use Rattle.paper.specs.Forms.{timeOf}
-use Rattle.quick.proofs.Signs.{inside, stopped-here}
+use Rattle.quick.proofs.Stops.{inside, stopped-here}
 use borrow.Author.Needs.{needs}
 use Rattle.quick.proofs.number.time.Statement.{statement}
 use Rattle.quick.proofs.number.time.Tie as tie

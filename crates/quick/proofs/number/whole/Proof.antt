@@ -1,6 +1,6 @@
 -- One digit, or a number of any length.
 use Rattle.paper.specs.Forms.{wholeOf}
-use Rattle.quick.proofs.Signs.{inside, stopped-here}
+use Rattle.quick.proofs.Stops.{inside, stopped-here}
 use borrow.Author.Needs.{needs}
 use Rattle.quick.proofs.number.whole.Statement.{statement}
 use Rattle.quick.proofs.number.whole.Tie as tie

@@ -1,7 +1,7 @@
 -- Seconds, and behind them the point and six digits.
 use native.Mathlib.Omega.{arith}
 use Rattle.quick.specs.Words.{SizeAt}
-use Rattle.quick.proofs.Signs.{sized, word-end, part-below, micros, time-here}
+use Rattle.quick.proofs.Sizes.{sized, word-end, part-below, micros, time-here}
 use Rattle.forms.specs.Sizes.{wholePart}
 use borrow.Author.Needs.{needs}
 use Rattle.quick.proofs.stamp.time_size.Statement.{statement}
