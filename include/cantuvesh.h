@@ -17,7 +17,7 @@
 extern "C" {
 #endif
 
-#define CANTUVESH_VERSION "0.3.0"
+#define CANTUVESH_VERSION "0.4.0"
 
 /* The sizes of a call. */
 #define CANTUVESH_TRACE_LIMIT 65536     /* the most bytes that a trace may have */
@@ -58,9 +58,9 @@ struct cantuvesh_asked {
  *              recvend0, -60 or -61
  *
  * The k-th receive at a processor from another, of one type, belongs to the k-th send from that one to
- * it, of that type, both counted in file order and whichever of these events they are. All other
- * records of -21, -27 to -31, -51, -52 and -57 to -61 are listed and no messages; what is left of -21 to
- * -80 is refused (8).
+ * it, of that type, both counted in file order and whichever of these events they are. It may take
+ * fewer bytes than were sent, but no more (14). All other records of -21, -27 to -31, -51, -52 and -57
+ * to -61 are listed and no messages; what is left of -21 to -80 is refused (8).
  */
 
 /* What `verdict` may be in an accepted answer; 0 in a refusal. */
@@ -99,7 +99,7 @@ struct cantuvesh_answer {
  *   11  the time is below the last listed one of its processor
  *   12  there is a listed record number 2,049
  *   13  the receive has no matching send
- *   14  the receive's length differs from its send's
+ *   14  the receive's length is above its send's
  *   15  no times exist: a ring of waits has latencies that add up to more than 0, or a time would be
  *       beyond the format's end
  *   16  the written trace was wanted and is longer than the room

@@ -29,7 +29,7 @@ from dataclasses import dataclass
 from pathlib import Path
 from typing import Literal, Tuple, Union
 
-VERSION = "0.3.0"  # of the library: another one's call may be another
+VERSION = "0.4.0"  # of the library: another one's call may be another
 TRACE_LIMIT = 65_536  # the most bytes that a trace may have
 PROCESSORS = 64  # processors are 0 to 63
 LATENCIES = PROCESSORS * PROCESSORS  # the exact number of latencies in a table
@@ -59,7 +59,7 @@ _SENTENCES = {
     11: "the time is below the last listed one of its processor",
     12: "there is a listed record number 2,049",
     13: "the receive has no matching send",
-    14: "the receive's length differs from its send's",
+    14: "the receive's length is above its send's",
     15: "no times exist: a ring of waits has latencies that add up to more than 0, or a time would be beyond the format's end",
     16: "the written trace was wanted and is longer than the room",
     17: "a processor with listed records has no tracing-level mark that counts, or its last one is not what is expected",

@@ -64,6 +64,10 @@ class Judging(unittest.TestCase):
         self.assertEqual(list(posted.times[-4:]), [95, 115, 115, 115])
         self.assertEqual(posted.written, POSTED.replace(b".000098", b".000115").replace(b"28 0.000100", b"28 0.000115").replace(b".000102", b".000115"))
 
+    def test_a_receive_may_take_fewer_bytes_than_were_sent(self):
+        short = judge(b"-3 -21 0.000004 0 0 3 2 8 1 1\n-4 -52 0.000000 1 0 3 2 7 1 0\n", FIVES, "strict", "off")
+        self.assertEqual((short.verdict, short.matched, list(short.times)), ("corrected", 1, [4, 9]))
+
     def test_lenient_passes_over_what_strict_refuses(self):
         trace = TRACE_A + b"-5 0 0.000000 0 0 0\n"
         lenient = judge(trace, FIVES, "lenient", "off")

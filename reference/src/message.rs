@@ -2,7 +2,7 @@
 //! events they are.
 
 use crate::line::Role;
-use crate::refusal::{OTHER_LENGTH, Refusal, UNMATCHED};
+use crate::refusal::{LONG_RECEIVE, Refusal, UNMATCHED};
 use crate::trace::Record;
 use std::collections::{HashMap, VecDeque};
 
@@ -16,7 +16,7 @@ pub struct Messages {
 }
 
 /// Pairs the receives with their sends, which may stand later in the file. The first receive that
-/// has none, or one of another length, decides.
+/// has none, or took more bytes than were sent, decides.
 pub fn pair(records: &[Record]) -> Result<Messages, Refusal> {
     let mut sends: HashMap<(usize, usize, i64), VecDeque<(usize, i64)>> = HashMap::new();
     for (place, record) in records.iter().enumerate() {
@@ -34,8 +34,8 @@ pub fn pair(records: &[Record]) -> Result<Messages, Refusal> {
             let channel = (message.partner, record.processor, message.kind);
             let send = sends.get_mut(&channel).and_then(VecDeque::pop_front);
             let (send, length) = send.ok_or(refused(UNMATCHED))?;
-            if length != message.length {
-                return Err(refused(OTHER_LENGTH));
+            if message.length > length {
+                return Err(refused(LONG_RECEIVE));
             }
             send_of[place] = Some(send);
             matched += 1;

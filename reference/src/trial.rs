@@ -3,6 +3,7 @@
 
 use crate::generator::Case;
 use crate::generator::stroke::{self, LONGEST_START};
+use crate::line::Role;
 use crate::{Answer, Choice, Inputs, form, message, trace};
 use std::collections::BTreeMap;
 use std::fmt;
@@ -98,16 +99,30 @@ fn place_of_difference<T: PartialEq + fmt::Debug>(
 
 /// The messages of an accepted trace, each by the events of its send and of its receive.
 pub fn events_of_messages(trace: &[u8]) -> Vec<(i64, i64)> {
+    // The event stands before the timestamp, with a space on either side.
+    let event = |record: &trace::Record| {
+        let start = &trace[..record.stamp.start - 1];
+        form::whole(start.rsplit(|&byte| byte == b' ').next()?)
+    };
+    messages_of(trace).iter().filter_map(|[send, receive]| Some((event(send)?, event(receive)?))).collect()
+}
+
+/// Whether some receive took fewer bytes than were sent.
+pub fn has_short_receive(trace: &[u8]) -> bool {
+    messages_of(trace).iter().any(|ends| match [ends[0].role, ends[1].role] {
+        [Role::Send(sent), Role::Receive(received)] => received.length < sent.length,
+        _ => false,
+    })
+}
+
+/// Each message of a trace, its send and its receive; none of one that is refused.
+fn messages_of(trace: &[u8]) -> Vec<[trace::Record; 2]> {
     // Strict reading would pass nothing over, or would have refused it.
     let Ok(trace::Listing { records, .. }) = trace::read(trace, Choice::Lenient) else { return Vec::new() };
     let Ok(message::Messages { send_of, .. }) = message::pair(&records) else { return Vec::new() };
-    // The event stands before the timestamp, with a space on either side.
-    let event = |place: usize| {
-        let start = &trace[..records[place].stamp.start - 1];
-        form::whole(start.rsplit(|&byte| byte == b' ').next()?)
-    };
-    let messages = send_of.iter().enumerate().filter_map(|(receive, &send)| Some((send?, receive)));
-    messages.filter_map(|(send, receive)| Some((event(send)?, event(receive)?))).collect()
+    let messages =
+        send_of.iter().zip(&records).filter_map(|(&send, receive)| Some([&records[send?], receive]));
+    messages.map(|ends| ends.map(Clone::clone)).collect()
 }
 
 /// Whether most lines of a trace begin so far before its end that a quick reader can go over their first six
@@ -128,6 +143,8 @@ pub struct Tally {
     pub levels_met: u64,
     /// Accepted traces with a message that was begun, or that finished later.
     pub nonblocking: u64,
+    /// Accepted traces with a receive that took fewer bytes than were sent.
+    pub short_receives: u64,
     /// Accepted traces most of whose lines, which are all good, a quick reader can take.
     pub quick: u64,
     /// Traces with one line that is one byte off a good one, in calls that come to reading lines.
@@ -147,6 +164,7 @@ impl Tally {
         let blocking = |events: (i64, i64)| matches!(events, (-21, -51 | -52));
         let all_block = |case: &Case| events_of_messages(&case.trace).into_iter().all(blocking);
         self.nonblocking += u64::from(answer.matched > 0 && !all_block(case));
+        self.short_receives += u64::from(answer.matched > 0 && has_short_receive(&case.trace));
         self.quick += u64::from(answer.number == 0 && is_mostly_far_from_end(&case.trace));
         self.one_byte_off += u64::from(case.kind == stroke::KIND && !matches!(answer.number, 1..=4));
         *self.kinds.entry(case.kind).or_default() += 1;
@@ -159,8 +177,12 @@ impl Tally {
             (format!("number {number}"), times, floor)
         });
         let verdicts = (1..=3).map(|verdict| (format!("verdict {verdict}"), self.verdicts[verdict], 500));
-        let kinds_of_accepted = [("levels met", self.levels_met), ("nonblocking messages", self.nonblocking)]
-            .map(|(name, times)| (name.to_string(), times, 500));
+        let kinds_of_accepted = [
+            ("levels met", self.levels_met),
+            ("nonblocking messages", self.nonblocking),
+            ("short receives", self.short_receives),
+        ]
+        .map(|(name, times)| (name.to_string(), times, 500));
         // What a quick reader takes and what it must not take, each in a tenth of the cases.
         let good_or_nearly = [("quick", self.quick), ("one byte off", self.one_byte_off)]
             .map(|(name, times)| (name.to_string(), times, 20_000));
@@ -187,6 +209,7 @@ impl fmt::Display for Tally {
         }
         writeln!(out, "levels met     {:>8}", self.levels_met)?;
         writeln!(out, "nonblocking    {:>8}", self.nonblocking)?;
+        writeln!(out, "short receives {:>8}", self.short_receives)?;
         writeln!(out, "quick          {:>8}", self.quick)?;
         writeln!(out, "one byte off   {:>8}", self.one_byte_off)
     }

@@ -198,7 +198,7 @@ fn one_count_for_all_receives() {
             let (answer, times) = judged(trace(&good), &flat_table(3), STRICT);
             assert_eq!((answer.number, answer.matched), (0, 2), "{good:?}");
             assert_eq!(times, [13, 23, 10, 20], "{good:?}");
-            // In the other order neither has the length of its send.
+            // In the other order the first takes more than was sent.
             assert_eq!(both(&[sends[0], sends[1], &two, &one]), (14, 3), "{good:?}");
             // A third has no send, whatever the two before it were.
             let third = "-4 -58 T 1 0 3 2 2 5 0";
@@ -215,7 +215,7 @@ fn one_count_for_all_sends() {
             let one = format!("{first} 0.000010 0 0 3 2 1 5 1");
             let two = format!("{second} 0.000010 0 0 3 2 2 5 1");
             assert_eq!(messages(&[receives[0], &one, &two, receives[1]]), (2, 0), "{first} {second}");
-            assert_eq!(both(&[&two, receives[0], receives[1], &one]), (14, 2), "{first} {second}");
+            assert_eq!(both(&[&two, receives[0], receives[1], &one]), (14, 3), "{first} {second}");
             assert_eq!(messages(&[&one, &two, receives[0]]), (1, 1), "{first} {second}");
         }
     }

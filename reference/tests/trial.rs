@@ -2,10 +2,10 @@
 
 use reference::generator::{Case, flat_table};
 use reference::line::Role;
-use reference::refusal::{LEVELS, NO_TIMES, RECORDS};
+use reference::refusal::{LEVELS, LONG_RECEIVE, NO_TIMES, RECORDS, UNMATCHED};
 use reference::trial::{Call, Tally, difference, events_of_messages};
 use reference::{Answer, Asked, Choice, Inputs, MAX_RECORDS, PROCESSORS, clock, judge, message, trace};
-use std::collections::{BTreeSet, HashMap};
+use std::collections::{BTreeSet, HashMap, VecDeque};
 
 const CASES: u64 = 2_000;
 /// For what is wrong in few cases.
@@ -335,6 +335,64 @@ fn receives_counted_otherwise_are_found() {
     assert!(found(|other, one| (other.posted, other.place) < (one.posted, one.place)));
 }
 
+/// Judges as the reference does, but gives 14 by another test of the received length and the sent one, or
+/// pairs otherwise than the k-th with the k-th.
+fn by_lengths(
+    pair: impl Fn(&mut VecDeque<i64>, i64) -> Option<i64>,
+    calls: impl Fn(i64, i64) -> bool,
+) -> impl Fn(Inputs) -> Answer {
+    move |mut call| {
+        let answer = tried(call.lent());
+        if (1..=RECORDS).contains(&answer.number) || answer.number == LEVELS {
+            return answer;
+        }
+        let records = trace::read(call.trace, Choice::Lenient).unwrap().records;
+        let mut sends: HashMap<_, VecDeque<i64>> = HashMap::new();
+        for record in &records {
+            if let Role::Send(sent) = record.role {
+                sends.entry((record.processor, sent.partner, sent.kind)).or_default().push_back(sent.length);
+            }
+        }
+        for record in &records {
+            let Role::Receive(received) = record.role else { continue };
+            let left = sends.entry((received.partner, record.processor, received.kind)).or_default();
+            let refused = |number| Answer { number, line: record.line, ..Answer::default() };
+            match pair(left, received.length) {
+                None => return refused(UNMATCHED),
+                Some(sent) if calls(received.length, sent) => return refused(LONG_RECEIVE),
+                Some(_) => {}
+            }
+        }
+        // What it would make of a trace that is refused by 14 does not matter: it takes it.
+        if answer.number == LONG_RECEIVE { Answer::default() } else { judge(call) }
+    }
+}
+
+#[test]
+fn lengths_compared_otherwise_are_found() {
+    let found =
+        |calls: fn(i64, i64) -> bool| found_in(MORE_CASES, by_lengths(|left, _| left.pop_front(), calls));
+    assert!(!found(|received, sent| received > sent));
+    assert!(found(|received, sent| received != sent));
+    assert!(found(|received, sent| received < sent));
+    assert!(found(|received, sent| received >= sent));
+    assert!(found(|received, sent| received > sent + 1));
+    assert!(found(|_, _| false));
+    // A receive of no byte is none; one byte too many is taken where none was sent.
+    assert!(found(|received, sent| received > sent || received == 0));
+    assert!(found(|received, sent| received > sent.max(1)));
+}
+
+#[test]
+fn pairs_by_lengths_are_found() {
+    // The first send that is long enough, and where there is none the first.
+    let first_that_fits = |left: &mut VecDeque<i64>, received| {
+        let place = left.iter().position(|&sent| sent >= received).unwrap_or(0);
+        left.remove(place)
+    };
+    assert!(found_in(MORE_CASES, by_lengths(first_that_fits, |received, sent| received > sent)));
+}
+
 /// How a judge might hold levels against marks.
 #[derive(Clone, Copy)]
 struct Rule {
@@ -529,7 +587,8 @@ fn nothing_comes_up_too_seldom() {
 #[test]
 fn too_few_good_or_nearly_good_traces_are_told() {
     let often = Tally { numbers: [500; 18], verdicts: [500; 4], levels_met: 500, ..Tally::default() };
-    let enough = Tally { nonblocking: 500, quick: 20_000, one_byte_off: 20_000, ..often };
+    let enough =
+        Tally { nonblocking: 500, short_receives: 500, quick: 20_000, one_byte_off: 20_000, ..often };
     assert_eq!(enough.too_seldom(), [""; 0]);
     assert_eq!(
         Tally { quick: 19_999, one_byte_off: 0, ..enough }.too_seldom(),

@@ -47,7 +47,7 @@ refusals! {
     Order = 11 "the time is below the last listed one of its processor"
     TooManyRecords = 12 "there is a listed record number 2,049"
     NoSend = 13 "the receive has no matching send"
-    OtherLength = 14 "the receive's length differs from its send's"
+    LongReceive = 14 "the receive's length is above its send's"
     NoTimes = 15 "no times exist: a ring of waits has latencies that add up to more than 0, or a time would be beyond the format's end"
     RoomTooShort = 16 "the written trace was wanted and is longer than the room"
     Levels = 17 "a processor with listed records has no tracing-level mark that counts, or its last one is not what is expected"

@@ -94,6 +94,14 @@ fn messages_may_be_posted_and_finish_later() {
 }
 
 #[test]
+fn a_receive_may_take_fewer_bytes_than_were_sent() {
+    let short = b"-3 -21 0.000004 0 0 3 2 8 1 1\n-4 -52 0.000000 1 0 3 2 7 1 0\n";
+    let (answer, times) = judged(short, &Latencies::everywhere(5), STRICT, None);
+    assert_eq!(answer.map(|accepted| (accepted.verdict, accepted.matched)), Ok((Verdict::Corrected, 1)));
+    assert_eq!(times[..], [4, 9]);
+}
+
+#[test]
 fn lenient_passes_over_what_strict_refuses() {
     let trace = b"-5 0 0.000000 0 0 0\n";
     assert_eq!(refused(trace), (Unlisted, 1));
@@ -135,7 +143,7 @@ fn refusals_of_a_line() {
     assert_eq!(refused(b"0 0 0.000001 0 0 0\n0 0 0.000000 0 0 0\n"), (Order, 2));
     assert_eq!(refused(&b"0 0 0.000000 0 0 0\n".repeat(TIMES + 1)), (TooManyRecords, 2_049));
     assert_eq!(refused(b"-4 -52 0.000000 1 0 3 2 8 1 0\n"), (NoSend, 1));
-    assert_eq!(refused(b"-4 -52 0.000000 1 0 3 2 8 1 0\n-3 -21 0.000000 0 0 3 2 7 1 1\n"), (OtherLength, 1));
+    assert_eq!(refused(b"-4 -52 0.000000 1 0 3 2 8 1 0\n-3 -21 0.000000 0 0 3 2 7 1 1\n"), (LongReceive, 1));
 }
 
 #[test]

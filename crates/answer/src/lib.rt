@@ -31,7 +31,7 @@ fn number(fault: Fault) -> u64
         Fault::Backwards => 11,
         Fault::TooMany => 12,
         Fault::NoSend => 13,
-        Fault::OtherLength => 14,
+        Fault::LongReceive => 14,
         Fault::NoTimes => 15,
         Fault::NoRoom => 16,
         Fault::OtherLevels => 17,

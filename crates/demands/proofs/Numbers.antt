@@ -14,7 +14,7 @@ faultOf n =
     getD
     (Fault.BadChoice ∷ Fault.BadChoice ∷ Fault.WrongLength ∷ Fault.HighLatency ∷ Fault.LongTrace ∷ Fault.Form ∷ Fault.Stamp
     ∷ Fault.Unlisted ∷ Fault.NotHandled ∷ Fault.Place ∷ Fault.NoMessage ∷ Fault.Backwards ∷ Fault.TooMany ∷ Fault.NoSend
-    ∷ Fault.OtherLength ∷ Fault.NoTimes ∷ Fault.NoRoom ∷ Fault.OtherLevels ∷ [])
+    ∷ Fault.LongReceive ∷ Fault.NoTimes ∷ Fault.NoRoom ∷ Fault.OtherLevels ∷ [])
     n Fault.BadChoice
 
 back : (fault : Fault) → faultOf (numberOf fault) ≡ fault
@@ -32,7 +32,7 @@ back Fault.NoMessage = refl
 back Fault.Backwards = refl
 back Fault.TooMany = refl
 back Fault.NoSend = refl
-back Fault.OtherLength = refl
+back Fault.LongReceive = refl
 back Fault.NoTimes = refl
 back Fault.NoRoom = refl
 back Fault.OtherLevels = refl

@@ -5,8 +5,8 @@ use mathlib.Core.Logic.{_⊎_, inl, inr}
 use mathlib.Core.Bool.{Bool, true, false, cond}
 use mathlib.Core.Option.{Option, none, some}
 use mathlib.Core.List.{List}
-use lib.Dec.{eqb}
-use borrow.Author.Tests.{eqb-false, ne-eqb}
+use lib.Dec.{leb}
+use borrow.Author.Tests.{leb-false, lt-leb}
 use Rattle.paper.specs.Matching.{sendOf, lengthSent, lengthAt, callOf, callFor}
 use Rattle.paper.specs.declared.Entry.{Entry}
 use Rattle.paper.specs.declared.Fault.{Fault}
@@ -18,12 +18,12 @@ use Rattle.matching.specs.Belongs.{role, Belongs}
 use Rattle.matching.proofs.Belong.{belongs, belongs-back}
 use Rattle.matching.proofs.Calls.{callAt}
 use Rattle.forms.proofs.Tests.{never}
-use Rattle.demands.specs.Rows.{NoSend, OtherLength}
+use Rattle.demands.specs.Rows.{NoSend, LongReceive}
 
 -- the row of a receive that calls for this; none calls for anything else
 pub data RowAt (es : List Entry) (k : ℕ) : Fault → Type 0 where
   send-row : NoSend es k → RowAt es k Fault.NoSend
-  length-row : OtherLength es k → RowAt es k Fault.OtherLength
+  length-row : LongReceive es k → RowAt es k Fault.LongReceive
 
 module _ (es : List Entry) (k : ℕ) where
   -- ---- to the row
@@ -42,15 +42,15 @@ module _ (es : List Entry) (k : ℕ) where
       → RowAt es k fault
   unfolding callOf
   receive-row m r none s fault e = let z : Fault.NoSend ≡ fault = cc in rw (← z) (send-row (m, r, none-belongs s))
-  receive-row m r (some j) s fault e = go (eqb (m .length) (lengthAt es j)) refl e
+  receive-row m r (some j) s fault e = go (leb (m .length) (lengthAt es j)) refl e
     where
-      go : (t : Bool) → eqb (m .length) (lengthAt es j) ≡ t → cond t none (some Fault.OtherLength) ≡ some fault → RowAt es k fault
+      go : (t : Bool) → leb (m .length) (lengthAt es j) ≡ t → cond t none (some Fault.LongReceive) ≡ some fault → RowAt es k fault
       go true t e = never (cc)
       go false t e =
-          let z : Fault.OtherLength ≡ fault = cc in
+          let z : Fault.LongReceive ≡ fault = cc in
           let b = belongs es k j s in
           let same = one-message m r j b in
-          rw (← z) (length-row (j, b, λ w. eqb-false _ _ t (ap (λ (x : Message). x .length) same ∙ w ∙ sym (sent-length j b))))
+          rw (← z) (length-row (j, b, rw (same, sent-length j b) at (leb-false (m .length) (lengthAt es j) t)))
 
   pub call-row : (fault : Fault) → callAt es k ≡ some fault → RowAt es k fault
   unfolding callFor
@@ -71,15 +71,15 @@ module _ (es : List Entry) (k : ℕ) where
       go none e = refl
       go (some j) e = absurd (alone j (belongs es k j e))
 
-  pub other-length-calls : OtherLength es k → callAt es k ≡ some Fault.OtherLength
+  pub long-receive-calls : LongReceive es k → callAt es k ≡ some Fault.LongReceive
   unfolding callFor callOf
-  other-length-calls (j, b, differs) =
-      rw (b .receives, belongs-back es k j b, ne-eqb (b .received .length) (lengthAt es j) (λ w. differs (w ∙ sent-length j b)))
+  long-receive-calls (j, b, more) =
+      rw (b .receives, belongs-back es k j b, lt-leb (b .received .length) (lengthAt es j) (rw (sent-length j b) more))
 
-  pub nothing-called : ¬ (NoSend es k ⊎ OtherLength es k) → callAt es k ≡ none
+  pub nothing-called : ¬ (NoSend es k ⊎ LongReceive es k) → callAt es k ≡ none
   nothing-called h = go (callAt es k) refl
     where
-      some-call : {fault : Fault} → RowAt es k fault → NoSend es k ⊎ OtherLength es k
+      some-call : {fault : Fault} → RowAt es k fault → NoSend es k ⊎ LongReceive es k
       some-call (send-row r) = inl r
       some-call (length-row r) = inr r
 
@@ -87,6 +87,6 @@ module _ (es : List Entry) (k : ℕ) where
       go none e = refl
       go (some fault) e = absurd (h (some-call (call-row fault e)))
 
-  pub called-not : callAt es k ≡ none → ¬ (NoSend es k ⊎ OtherLength es k)
+  pub called-not : callAt es k ≡ none → ¬ (NoSend es k ⊎ LongReceive es k)
   called-not e (inl n) = let f = no-send-calls n in never (cc)
-  called-not e (inr o) = let f = other-length-calls o in never (cc)
+  called-not e (inr o) = let f = long-receive-calls o in never (cc)

@@ -20,13 +20,13 @@ use Rattle.paper.specs.declared.Stop.{Stop}
 use Rattle.paper.specs.declared.Stop.the-variants.{End, At}
 use Rattle.rounds.proofs.Meaning.{impossible-iff}
 use Rattle.demands.specs.Steps.{Chosen, RightLengths, LowLatencies, Begun, reading, entries, Read, Levelled, Matched, waits}
-use Rattle.demands.specs.Rows.{NoSend, OtherLength}
+use Rattle.demands.specs.Rows.{NoSend, LongReceive}
 use Rattle.demands.specs.Table.{When}
 use Rattle.demands.proofs.Tests.{untold, lengths-tell, lows-tell, short-tells, unchosen, neither}
 use Rattle.demands.proofs.Closed.{waits-closed}
 use Rattle.demands.proofs.LineRows.{form-row, stamp-row, strict-row, handled-row, place-row, message-row}
 use Rattle.demands.proofs.GoodLines.{no-end, backwards, too-many}
-use Rattle.demands.proofs.ReceiveRows.{no-send-calls, other-length-calls}
+use Rattle.demands.proofs.ReceiveRows.{no-send-calls, long-receive-calls}
 use Rattle.demands.proofs.Said.{bad-stops, line-stops, levels-stop, call-stops, when-line, when-levels, when-receive}
 use Rattle.demands.proofs.Reached.{reach-choice, reach-length, reach-latency, reach-long, reach-line, reach-levels, reach-receive, reach-times}
 
@@ -107,7 +107,7 @@ module _ (i : Inputs) where
   row-stops Fault.TooMany n (at, r) = inl (reach-line i Fault.TooMany n (bad-stops i n _ (at .comes) Fault.TooMany (too-many r)))
   row-stops Fault.OtherLevels n o = inl (reach-levels i Fault.OtherLevels n (levels-stop i n o))
   row-stops Fault.NoSend n f = inl (reach-receive i Fault.NoSend n (call-stops i n Fault.NoSend NoSend no-send-calls f))
-  row-stops Fault.OtherLength n f = inl (reach-receive i Fault.OtherLength n (call-stops i n Fault.OtherLength OtherLength other-length-calls f))
+  row-stops Fault.LongReceive n f = inl (reach-receive i Fault.LongReceive n (call-stops i n Fault.LongReceive LongReceive long-receive-calls f))
   row-stops Fault.NoTimes n (choice, m, none-sound, e) =
       inl (reach-times i choice m (impossible-iff (waits i choice) (waits-closed (i .latencies) (entries i choice)) .1 none-sound)
       ∙ ap (stopped Fault.NoTimes) (sym e))

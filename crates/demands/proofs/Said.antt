@@ -19,7 +19,7 @@ use Rattle.matching.proofs.Calls.{callAt, FirstCall, first-call-at, at-first-ca
 use Rattle.demands.specs.Steps.{Begun, reading, entries, Read, Levelled}
 use Rattle.demands.specs.Before.{Good, ComesTo, AtLine}
 use Rattle.demands.specs.Levels.{OtherLevels, AtLevels}
-use Rattle.demands.specs.Rows.{NoSend, OtherLength, FirstReceive}
+use Rattle.demands.specs.Rows.{NoSend, LongReceive, FirstReceive}
 use Rattle.demands.specs.Table.{When}
 use Rattle.demands.proofs.Stops.{BadLine, BadLevels, BadReceive}
 use Rattle.demands.proofs.LineRows.{RowIn, form-row, stamp-row, strict-row, handled-row, place-row, message-row}
@@ -152,7 +152,7 @@ module _ (i : Inputs) where
     when-called : {fault : Fault} → RowAt (c .before) k fault → FirstCall (c .before) k fault → When i fault n
     unfolding When
     when-called (send-row r) f = first-call f NoSend r
-    when-called (length-row r) f = first-call f OtherLength r
+    when-called (length-row r) f = first-call f LongReceive r
 
   pub when-receive : (fault : Fault) (n : ℕ) → BadReceive i fault n → When i fault n
   when-receive fault n b =

@@ -28,12 +28,12 @@ use Rattle.demands.specs.Accepted.{Moved, AcceptedAnswer}
 
 -- ---- each receive and its send
 
--- "each receive is matched to one send", which it belongs to and whose length it has
+-- "each receive is matched to one send", which it belongs to; the received length is at most the sent one
 pub record Sent (es : List Entry) (k : ℕ) : Type 0 where
   pub send : ℕ
   pub is : sendOf es k ≡ some send
   pub belongs : Belongs es k send
-  pub length : belongs .received .length ≡ belongs .sent .length
+  pub length : belongs .received .length ≤ belongs .sent .length
 
 -- ---- the written trace
 

@@ -123,9 +123,9 @@ TooMany limit es choice l = (r : Record) × (lineOf choice l ≡ Listed r) × (�
 abbrev pub NoSend : List Entry → ℕ → Type 0
 NoSend es k = (m : Message) × (role es k ≡ Receive m) × ((j : ℕ) → ¬ Belongs es k j)
 
--- "its length differs from the send's"
-abbrev pub OtherLength : List Entry → ℕ → Type 0
-OtherLength es k = (j : ℕ) × (b : Belongs es k j) × (¬ (b .received .length ≡ b .sent .length))
+-- "exactly if the received length is above the sent one"
+abbrev pub LongReceive : List Entry → ℕ → Type 0
+LongReceive es k = (j : ℕ) × (b : Belongs es k j) × (b .sent .length < b .received .length)
 
 -- "then the first receive in file order that calls for 13 or 14": all lines are good, 17 is not called for, and it calls for this
 pub record FirstReceive (i : Inputs) (line : ℕ) (calls : List Entry → ℕ → Type 0) : Type 0 where
@@ -137,4 +137,4 @@ pub record FirstReceive (i : Inputs) (line : ℕ) (calls : List Entry → ℕ �
   pub within : place < length (comes .before)
   pub its-line : entryAt (comes .before) place .line ≡ line
   pub is : calls (comes .before) place
-  pub first : (k : ℕ) → k < place → ¬ (NoSend (comes .before) k ⊎ OtherLength (comes .before) k)
+  pub first : (k : ℕ) → k < place → ¬ (NoSend (comes .before) k ⊎ LongReceive (comes .before) k)

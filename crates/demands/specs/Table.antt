@@ -16,7 +16,7 @@ use Rattle.paper.specs.declared.Fault.the-variants as Fault
 use Rattle.demands.specs.Steps.{Chosen, Unheard, RightLengths, LowLatencies, ShortTrace, Matched, waits}
 use Rattle.demands.specs.Before.{ComesTo, AtLine}
 use Rattle.demands.specs.Levels.{OtherLevels}
-use Rattle.demands.specs.Rows.{BadForm, BadStamp, UnlistedStrict, NotHandled, BadPlace, NoMessage, Backwards, TooMany, NoSend, OtherLength, FirstReceive}
+use Rattle.demands.specs.Rows.{BadForm, BadStamp, UnlistedStrict, NotHandled, BadPlace, NoMessage, Backwards, TooMany, NoSend, LongReceive, FirstReceive}
 
 unfoldable pub When : Inputs → Fault → ℕ → Type 0
 -- "choice is neither 1 (strict) nor 2 (lenient)"; of the levels "0 for off .. or 1 for on; any other is refusal 1"
@@ -48,8 +48,8 @@ When i Fault.TooMany line = (at : AtLine i line) × TooMany (most (given i)) (at
 When i Fault.OtherLevels line = OtherLevels i line
 -- "receive without a matching send"
 When i Fault.NoSend line = FirstReceive i line NoSend
--- "its length differs from the send's"
-When i Fault.OtherLength line = FirstReceive i line OtherLength
+-- "exactly if the received length is above the sent one"
+When i Fault.LongReceive line = FirstReceive i line LongReceive
 -- "no times exist"
 When i Fault.NoTimes line = (choice : Choice) × Matched i choice × ((x : ℕ → ℤ) → Sound (waits i choice) x → ⊥) × (line ≡ 0)
 -- "written trace longer than the room lent", where it is asked for

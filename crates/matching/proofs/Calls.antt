@@ -8,8 +8,8 @@ use mathlib.Core.Logic.{_⊎_, inl, inr}
 use mathlib.Core.Bool.{Bool, true, false, cond}
 use mathlib.Core.Option.{Option, none, some, Option·some-ne-none, Option·some-injective}
 use mathlib.Core.List.{List, []}
-use borrow.Author.Tests.{eqb-true}
-use lib.Dec.{eqb}
+use borrow.Author.Tests.{leb-true}
+use lib.Dec.{leb}
 use lib.ListN.{length, drop, drop-of-length-le}
 use lib.Seq.{drop-cons}
 use Rattle.paper.specs.Matching.{entryAt, sendOf, lengthAt, lengthSent, callOf, callFor, onCall, matchedFrom, matchedOf}
@@ -101,29 +101,29 @@ module _ (es : List Entry) where
           let place : entryAt es i .line ≡ line = cc in
           (i, rw same at f, place)
 
-  -- ---- a receive that calls for nothing has a send of its length
+  -- ---- a receive that calls for nothing has a send of at least its length
 
-  call-none : (received : ℕ) (o : Option ℕ) → callOf es received o ≡ none → (j : ℕ) × (o ≡ some j) × (received ≡ lengthAt es j)
+  call-none : (received : ℕ) (o : Option ℕ) → callOf es received o ≡ none → (j : ℕ) × (o ≡ some j) × (received ≤ lengthAt es j)
   unfolding callOf
   call-none received none h = absurd (Option·some-ne-none _ h)
-  call-none received (some j) h = go (eqb received (lengthAt es j)) refl h
+  call-none received (some j) h = go (leb received (lengthAt es j)) refl h
     where
-      go : (t : Bool) → eqb received (lengthAt es j) ≡ t → cond t none (some Fault.OtherLength) ≡ none
-          → (k : ℕ) × (some j ≡ some k) × (received ≡ lengthAt es k)
-      go true e g = (j, refl, eqb-true _ _ e)
+      go : (t : Bool) → leb received (lengthAt es j) ≡ t → cond t none (some Fault.LongReceive) ≡ none
+          → (k : ℕ) × (some j ≡ some k) × (received ≤ lengthAt es k)
+      go true e g = (j, refl, leb-true _ _ e)
       go false e g = absurd (Option·some-ne-none _ g)
 
   -- "and where all match, every receive has a send"
   pub every-receive : matchedOf es ≡ End → (i : ℕ) → i < length es → (m : Message) → roleAt es i ≡ Receive m
-      → (j : ℕ) × (sendOf es i ≡ some j) × (m .length ≡ lengthAt es j)
+      → (j : ℕ) × (sendOf es i ≡ some j) × (m .length ≤ lengthAt es j)
   unfolding callFor
   every-receive h i l m r = call-none (m .length) (sendOf es i) (rw r at (end-no-call h i l))
 
-  -- and the two lengths agree
-  pub lengths-agree : matchedOf es ≡ End → (i j : ℕ) → i < length es → sendOf es i ≡ some j → (b : Belongs es i j)
-      → b .received .length ≡ b .sent .length
+  -- and no more was received than was sent
+  pub no-more-received : matchedOf es ≡ End → (i j : ℕ) → i < length es → sendOf es i ≡ some j → (b : Belongs es i j)
+      → b .received .length ≤ b .sent .length
   unfolding lengthSent
-  lengths-agree h i j l e b =
-      let (k, f, same) = every-receive h i l (b .received) (b .receives) in
+  no-more-received h i j l e b =
+      let (k, f, low) = every-receive h i l (b .received) (b .receives) in
       let z : k ≡ j = Option·some-injective k j (sym f ∙ e) in
-      same ∙ ap (λ (x : ℕ). lengthAt es x) z ∙ ap lengthSent (b .sends)
+      rw (z, b .sends) at low

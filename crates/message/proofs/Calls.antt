@@ -4,7 +4,7 @@ use native.Mathlib.Omega.{arith}
 use mathlib.Core.Path.{_≡_, refl, sym, ap, _∙_}
 use mathlib.Core.Option.{Option, none, some}
 use mathlib.Core.List.{List}
-use borrow.Author.Tests.{eq-eqb, ne-eqb}
+use borrow.Author.Tests.{le-leb, lt-leb}
 use lib.ListN.{length, getD, drop}
 use Rattle.paper.specs.Matching.{entryAt, sendOf, callOf, callFor, lengthSent, onCall, matchedFrom}
 use Rattle.paper.specs.declared.Fault.{Fault}
@@ -59,14 +59,14 @@ module _ (l : List ℕ) (n i : ℕ) (m : i < n) {role : Role} (h : role ≡ entr
       its-send : sendOf es i ≡ some (getD sends i 0)
       its-send = rw p (has-send es i low (rw (length-entries l n, ← p) g))
 
-      -- "its length differs from the send's"
-      pub calls-other-length : (x .length ≡ sent → ⊥) → {line : ℕ} → line ≡ entryFrom l i .line → At Fault.OtherLength line ≡ stopAt es i
+      -- "exactly if the received length is above the sent one"
+      pub calls-long-receive : sent < x .length → {line : ℕ} → line ≡ entryFrom l i .line → At Fault.LongReceive line ≡ stopAt es i
       unfolding stopAt callFor callOf
-      calls-other-length d e = rw (role-is, r, line-is e, its-send, its-length, ne-eqb (x .length) sent d)
+      calls-long-receive d e = rw (role-is, r, line-is e, its-send, its-length, lt-leb (x .length) sent d)
 
-      pub calls-nothing : x .length ≡ sent → End ≡ stopAt es i
+      pub calls-nothing : x .length ≤ sent → End ≡ stopAt es i
       unfolding stopAt callFor callOf
-      calls-nothing d = rw (role-is, r, its-send, its-length, eq-eqb (x .length) sent d)
+      calls-nothing d = rw (role-is, r, its-send, its-length, le-leb (x .length) sent d)
 
 -- the search for the first call: a turn
 module _ (es : List Entry) (i : ℕ) (m : i < length es) where

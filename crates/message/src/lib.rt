@@ -31,7 +31,7 @@ fn length_sent(role: Role) -> u64
     }
 }
 
-// What record i calls for: 13 where it is a receive without a send, 14 where its length differs from the send's.
+// What record i calls for: 13 where it is a receive without a send, 14 where it received more than was sent.
 fn call_at(store: &[u32], sends: &[u32], i: usize) -> Stop
     requires { ⌜ (i < length (now sends)) × (now sends ≡ placesOf (entriesIn (now store) (length (now sends)))) ⌝ }
     ensures { λ r. ⌜ r ≡ stopAt (entriesIn (now (store .entry)) (length (now (sends .entry)))) i ⌝ }
@@ -47,8 +47,8 @@ fn call_at(store: &[u32], sends: &[u32], i: usize) -> Stop
                 return Stop::At(Fault::NoSend, store::line_at(store, i));
             }
             let sent = length_sent(store::role_at(store, s));
-            if received != sent {
-                return Stop::At(Fault::OtherLength, store::line_at(store, i));
+            if sent < received {
+                return Stop::At(Fault::LongReceive, store::line_at(store, i));
             }
             Stop::End
         }

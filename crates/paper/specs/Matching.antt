@@ -5,7 +5,7 @@ use mathlib.Core.Bool.{Bool, true, false, cond, _&&_}
 use mathlib.Core.Option.{Option, none, some, Option·map}
 use lib.ListN.{length, take, getD}
 use lib.IntN.{ℤ, pos}
-use lib.Dec.{eqb}
+use lib.Dec.{eqb, leb}
 use Rattle.paper.specs.Tests.{eqZ}
 use Rattle.paper.specs.Clock.{Waits}
 use Rattle.paper.specs.declared.Fault.{Fault}
@@ -91,10 +91,11 @@ lengthSent (Receive m) = 0
 abbrev pub lengthAt : List Entry → ℕ → ℕ
 lengthAt es j = lengthSent (entryAt es j .body .role)
 
--- what a receive of so many bytes calls for: 13 where it has no send, 14 where "its length differs from the send's"
+-- what a receive of so many bytes calls for: 13 where it has no send, 14 "exactly if the received length is above the sent one"
+-- (change request 4)
 unfoldable pub callOf : List Entry → ℕ → Option ℕ → Option Fault
 callOf es received none = some Fault.NoSend
-callOf es received (some j) = cond (eqb received (lengthAt es j)) none (some Fault.OtherLength)
+callOf es received (some j) = cond (leb received (lengthAt es j)) none (some Fault.LongReceive)
 
 unfoldable pub callFor : List Entry → ℕ → Role → Option Fault
 callFor es i Neither = none

@@ -1,4 +1,5 @@
--- Document 01, "Numbers a caller gets back": the table's first column; and the number of the first change request.
+-- Document 01, "Numbers a caller gets back": the table's first column, with 14 as the fourth change request has it; and the number of
+-- the first one.
 use Prim.Native.Nat.{ℕ}
 use Rattle.paper.specs.declared.Fault.{Fault}
 use Rattle.paper.specs.declared.Fault.the-variants as Fault
@@ -30,8 +31,8 @@ numberOf Fault.Backwards = 11
 numberOf Fault.TooMany = 12
 -- "receive without a matching send"
 numberOf Fault.NoSend = 13
--- "its length differs from the send's"
-numberOf Fault.OtherLength = 14
+-- "exactly if the received length is above the sent one"
+numberOf Fault.LongReceive = 14
 -- "no times exist"
 numberOf Fault.NoTimes = 15
 -- "written trace longer than the room lent"

@@ -53,7 +53,7 @@ pub enum Fault {
     Backwards,
     TooMany,
     NoSend,
-    OtherLength,
+    LongReceive,
     NoTimes,
     NoRoom,
     OtherLevels,

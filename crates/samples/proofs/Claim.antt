@@ -1,4 +1,5 @@
--- P1 to P10 hold, and those of the levels and of posted messages: the definitions, run from the bytes of the trace to those of the report.
+-- P1 to P10 hold, and those of the levels, of posted messages and of short receives: the definitions, run from the bytes of the trace
+-- to those of the report.
 use mathlib.Core.Path.{refl}
 use Rattle.paper.specs.Tests.{oneOf}
 use Rattle.paper.specs.Numbers.{numberOf}
@@ -17,4 +18,4 @@ use Rattle.samples.specs.Samples.{samples, Hold}
 
 pub samples-hold : Hold samples
 unfolding samples Hold reportOf acceptedShown refusedShown verdictShown twoNumbers numbered shown placesFrom bytesOf indexOf numberOf isDigit digitsFrom unled hasMinus signed behindSign atMost wholeSize wholeOf timeSize timeOf oneOf listedKind inRanges negative standingOf field after goesOn rest fieldsAbove firstOf countOf placeOf sixOf headOf goodEnd stepOver unlisted valuesOf asWholes asOthers described dataOf placed partOf messageOf roleOf withRole withData onPlace listedLine sorted begun lineOf before linesOf start checked withListed withPassed onLine readFrom readOf sendsUnder receivesUnder countIf sendPlace sendFor entryAt sendOf lengthSent callOf callFor matchedFrom matchedOf isSend isReceive matchedCount unreceivedCount lastOf latencyFor waitsOf isThree counts expected agrees offAt levelsFrom levelsOf next same withinLimit settledFrom settle judge reach conclude most longest heard refused choiceOf rightLengths lowLatencies verdictOf accepted written onWritten onSettled onMatched onLevels onRead onChoice
-samples-hold = (refl, refl, (refl, refl, (refl, refl, (refl, refl, (refl, refl, (refl, refl, (refl, refl, (refl, refl, (refl, refl, (refl, refl, (refl, refl, (refl, refl, (refl, refl, (refl, refl, (refl, refl, (refl, refl, (refl, refl, (refl, refl, (refl, refl, (refl, refl, (refl, refl, (refl, refl, (refl, refl, (refl, refl, (refl, refl, (refl, refl, (refl, refl, tt)))))))))))))))))))))))))))
+samples-hold = (refl, refl, (refl, refl, (refl, refl, (refl, refl, (refl, refl, (refl, refl, (refl, refl, (refl, refl, (refl, refl, (refl, refl, (refl, refl, (refl, refl, (refl, refl, (refl, refl, (refl, refl, (refl, refl, (refl, refl, (refl, refl, (refl, refl, (refl, refl, (refl, refl, (refl, refl, (refl, refl, (refl, refl, (refl, refl, (refl, refl, (refl, refl, (refl, refl, (refl, refl, (refl, refl, (refl, refl, tt)))))))))))))))))))))))))))))))

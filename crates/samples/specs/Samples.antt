@@ -1,6 +1,6 @@
 -- Document 01, "Sample traces": those marked P, each a call from the trace's bytes with its whole outcome and the program's whole
--- report of it; and in the same way what the first change request and its reading say of the tracing levels, and the second of messages
--- that are posted and finish later.
+-- report of it; and in the same way what the first change request and its reading say of the tracing levels, the second of messages
+-- that are posted and finish later, and the fourth of receives that take fewer bytes than were sent.
 use Prim.Native.Nat.{ℕ, _+_, _*_}
 use Prim.Native.String.{String}
 use mathlib.Core.Path.{_≡_}
@@ -75,13 +75,26 @@ noMessages =
     ∷ "-2 -61 0.000000 0 0 3 2 8 1 0\n"
     ∷ []
 
--- two messages of one type, of 8 and of 16 bytes, received by two events
+-- two messages of one type, of 16 and of 8 bytes, received by two events
 abbrev twoEvents : List String
 twoEvents =
+    "-3 -21 0.000001 0 0 3 2 16 5 1\n"
+    ∷ "-3 -21 0.000002 0 0 3 2 8 5 1\n"
+    ∷ "-4 -51 0.000003 1 0 3 2 16 5 0\n"
+    ∷ "-4 -60 0.000004 1 0 3 2 16 5 0\n"
+    ∷ []
+
+-- trace A with this for the receive of the 8 bytes that processor 0 sends
+abbrev receivedA : String → List String
+receivedA receive = take 2 traceA ++ (receive ∷ drop 3 traceA)
+
+-- sends of 8 and of 16 bytes, of which 16 and 8 are received
+abbrev otherPairing : List String
+otherPairing =
     "-3 -21 0.000001 0 0 3 2 8 5 1\n"
     ∷ "-3 -21 0.000002 0 0 3 2 16 5 1\n"
-    ∷ "-4 -51 0.000003 1 0 3 2 8 5 0\n"
-    ∷ "-4 -60 0.000004 1 0 3 2 8 5 0\n"
+    ∷ "-4 -52 0.000003 1 0 3 2 16 5 0\n"
+    ∷ "-4 -52 0.000004 1 0 3 2 8 5 0\n"
     ∷ []
 
 abbrev joined : List String → List ℕ
@@ -283,7 +296,7 @@ samples =
       comes = answer 3 0 0 (pos 0 ∷ pos 0 ∷ pos 0 ∷ pos 0 ∷ pos 0 ∷ []);
       shows = report "verdict nothing to judge\n" "listed 5\n" "matched 0\n" "rounds 0\n";
     }
-    -- "Receives count by completion": the second belongs to the send of 16 bytes, although it is the first of its event
+    -- "Receives count by completion": the second belongs to the send of 8 bytes, although it is the first of its event
     ∷ record {
       call = given (joined twoEvents) (everywhere 0) 1;
       comes = refusal 14 4;
@@ -300,6 +313,28 @@ samples =
       call = given (bytesOf "-3 -27 0.000000 0 0 4 2 8 1 1 0\n") (everywhere 0) 1;
       comes = refusal 10 1;
       shows = "refused 10 line 1\n" ∷ [];
+    }
+    -- request 4: "14 is given exactly if the received length is above the sent one": 7 and 0 of 8 bytes are as P1, 9 are not
+    ∷ record {
+      call = given (joined (receivedA "-4 -52 0.000009 1 0 3 2 7 1 0\n")) (everywhere 5) 1;
+      comes = answer 2 2 3 (pos 10 ∷ pos 12 ∷ pos 15 ∷ pos 15 ∷ pos 20 ∷ []);
+      shows = report "verdict corrected\n" "listed 5\n" "matched 2\n" "rounds 3\n";
+    }
+    ∷ record {
+      call = given (joined (receivedA "-4 -52 0.000009 1 0 3 2 0 1 0\n")) (everywhere 5) 1;
+      comes = answer 2 2 3 (pos 10 ∷ pos 12 ∷ pos 15 ∷ pos 15 ∷ pos 20 ∷ []);
+      shows = report "verdict corrected\n" "listed 5\n" "matched 2\n" "rounds 3\n";
+    }
+    ∷ record {
+      call = given (joined (receivedA "-4 -52 0.000009 1 0 3 2 9 1 0\n")) (everywhere 5) 1;
+      comes = refusal 14 3;
+      shows = "refused 14 line 3\n" ∷ [];
+    }
+    -- "Nothing else in matching moves": the first receive belongs to the first send, although the second would fit
+    ∷ record {
+      call = given (joined otherPairing) (everywhere 0) 1;
+      comes = refusal 14 3;
+      shows = "refused 14 line 3\n" ∷ [];
     }
     ∷ []
 

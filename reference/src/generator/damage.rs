@@ -32,7 +32,7 @@ fn spoil_record(random: &mut Random, records: &mut Vec<Record>) {
         return;
     }
     let place = random.pick(&messages);
-    match random.below(10) {
+    match random.below(12) {
         0 | 1 => drop(records.remove(place)),
         2 => records.insert(place, records[place].clone()),
         3..7 => change_datum(random, &mut records[place]),
@@ -41,7 +41,15 @@ fn spoil_record(random: &mut Random, records: &mut Vec<Record>) {
             records.swap(place, other);
         }
         8 => records[place].time -= random.pick(&[1, 1, 10, 1_000_000]),
-        _ => records[place].event = random.pick(&OTHER_EVENTS),
+        9 => records[place].event = random.pick(&OTHER_EVENTS),
+        _ => add_bytes(random, &mut records[place]),
+    }
+}
+
+/// More bytes than there were: of a send, and its receive is short; of a receive, and it is too long.
+fn add_bytes(random: &mut Random, record: &mut Record) {
+    if let Data::Wholes(values) = &mut record.data {
+        values[0] += random.pick(&[1, 1, 8]);
     }
 }
 

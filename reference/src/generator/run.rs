@@ -92,6 +92,7 @@ fn simulate(
     let kinds = random.pick(&[1, 1, 2, 3, 8]);
     let strange_kinds = random.chance(10);
     let mixture = Mixture::any(random);
+    let short_receives = random.pick(&[0, 0, 30, 100]);
     let mut now = [start; PROCESSORS];
     let mut flying: Vec<VecDeque<Flying>> = Vec::new();
     let mut records = Vec::new();
@@ -133,7 +134,8 @@ fn simulate(
                 if let Some(message) = flying[queue].pop_front() {
                     now[here] = now[here].max(message.arrival);
                     let Flying { from, kind, length, .. } = message;
-                    records.push(Record::receive(event, now[here], at, length, kind, from as i64));
+                    let received = if random.chance(short_receives) { taken(random, length) } else { length };
+                    records.push(Record::receive(event, now[here], at, received, kind, from as i64));
                 }
                 if flying[queue].is_empty() {
                     flying.swap_remove(queue);
@@ -143,6 +145,11 @@ fn simulate(
         }
     }
     records
+}
+
+/// How many bytes of a message go into a buffer: all of them, nearly all, or few.
+fn taken(random: &mut Random, length: i64) -> i64 {
+    random.pick(&[length, length - 1, length / 2, 1, 0]).clamp(0, length)
 }
 
 fn through_clocks(random: &mut Random, mut records: Vec<Record>) -> Vec<Record> {

@@ -2,7 +2,7 @@
 use mathlib.Core.Path.{_∙_, ap}
 use Rattle.paper.specs.Matching.{lengthSent}
 use Rattle.chains.proofs.Widths.{widens}
-use Rattle.message.proofs.Calls.{calls-neither, calls-send, calls-no-send, calls-other-length, calls-nothing}
+use Rattle.message.proofs.Calls.{calls-neither, calls-send, calls-no-send, calls-long-receive, calls-nothing}
 use borrow.Author.Needs.{needs}
 use Rattle.message.proofs.call_at.Statement.{statement}
 use Rattle.message.proofs.call_at.Tie as tie
@@ -56,7 +56,7 @@ returns-2 c =
     let start = c₉ .before .before .before in
     let m = c₇ .role .given in
     let sent = c .before .before .length-sent in
-    calls-other-length _ _ _ (start .pre .0) (c₉ .role-at .ensures) (m .0 .0) (m .1) (start .args .sends .now) (start .pre .1)
+    calls-long-receive _ _ _ (start .pre .0) (c₉ .role-at .ensures) (m .0 .0) (m .1) (start .args .sends .now) (start .pre .1)
     (sent .result) (c₃ .before .if1 .left) (sent .ensures ∙ ap lengthSent (c₃ .role-at2 .ensures)) (c .before .if2 .taken) (c .line-at2 .ensures)
 
 returns-3 : tie.Need-returns-3
