@@ -12,13 +12,15 @@ use Rattle.paper.specs.declared.Head.{Head}
 use Rattle.paper.specs.declared.Line.{Line}
 use Rattle.paper.specs.declared.Standing.{Standing}
 use Rattle.reading.specs.Places.{lineAt}
-use Rattle.quick.specs.Lines.{fieldsFrom, Told, OpensAt, BeginsAt, DataAt, HoldsAt, EndsAt}
+use Rattle.reading.specs.Rests.{fieldsFrom}
+use Rattle.quick.specs.Lines.{Told, OpensAt, BeginsAt, DataAt, HoldsAt}
 use Rattle.quick.specs.declared.Begins.{Begins}
 use Rattle.quick.specs.declared.Begins.the-variants as Begins
 use Rattle.quick.specs.declared.Holds.{Holds}
 use Rattle.quick.specs.declared.Holds.the-variants as Holds
-use Rattle.quick.specs.declared.Ends.{Ends}
-use Rattle.quick.specs.declared.Ends.the-variants as Ends
+use Rattle.tail.specs.Ends.{EndsAt}
+use Rattle.tail.specs.declared.Ends.{Ends}
+use Rattle.tail.specs.declared.Ends.the-variants as Ends
 use Rattle.line.specs.declared.Quick.{Quick}
 use Rattle.line.specs.declared.Quick.the-variants.{Of, Doubt}
 use Rattle.line.specs.Quick.{QuickAt, RestAt}

@@ -10,7 +10,7 @@ use Rattle.paper.specs.Line.{lineOf}
 use Rattle.paper.specs.declared.Choice.{Choice}
 use Rattle.paper.specs.declared.Line.{Line}
 use Rattle.reading.specs.Places.{lineAt, nextLine}
-use Rattle.quick.specs.Lines.{fieldsFrom, Ended}
+use Rattle.reading.specs.Rests.{fieldsFrom, Ended}
 use Rattle.line.specs.declared.Quick.{Quick}
 use Rattle.line.specs.declared.Quick.the-variants.{Of, Doubt}
 

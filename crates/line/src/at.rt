@@ -1,4 +1,4 @@
-// A line read where it starts in its trace, as far as crate quick has no doubt.
+// A line read where it starts in its trace, as far as the crates quick and tail have no doubt.
 ghost use Rattle.paper.specs.Line.{listedLine, unlisted};
 ghost use Rattle.line.specs.Quick.{QuickAt, RestAt};
 use crate::Quick;
@@ -8,8 +8,8 @@ use paper::Choice;
 use paper::Head;
 use paper::Standing;
 use quick::Begins;
-use quick::Ends;
 use quick::Holds;
+use tail::Ends;
 
 // "then 9, data (5), 10"
 fn with_data(s: &[u8], h: Head, ended: bool, at: usize) -> Quick
@@ -25,7 +25,7 @@ fn with_data(s: &[u8], h: Head, ended: bool, at: usize) -> Quick
 fn over(choice: Choice, s: &[u8], h: Head, ended: bool, at: usize) -> Quick
     ensures { λ r. ⌜ RestAt (unlisted choice h) (now (s .entry)) ended at r ⌝ }
 {
-    let Ends::At(next) = quick::read_end(s, ended, at, h.count) else {
+    let Ends::At(next) = tail::read_end(s, ended, at, h.count) else {
         return Quick::Doubt;
     };
     Quick::Of(sort::step_over(choice), next)

@@ -7,5 +7,4 @@ pub mod Stops
 pub mod Moves
 pub mod Opens
 pub mod Takes
-pub mod Tails
 pub mod Outcome

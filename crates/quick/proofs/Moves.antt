@@ -22,11 +22,12 @@ use Rattle.field.specs.Cursor.{readAs}
 use Rattle.field.specs.declared.Form.{Form}
 use Rattle.field.specs.declared.Form.the-variants.{Whole, Time}
 use Rattle.reading.specs.Places.{lineAt, nextLine}
+use Rattle.reading.specs.Rests.{fieldsFrom, endFrom}
 use Rattle.reading.proofs.Fields.{index-past, field-of, rest-of}
 use Rattle.quick.specs.declared.number.Number.{Number}
 use Rattle.quick.specs.declared.number.Number.the-variants.{Of, Doubt}
 use Rattle.quick.specs.Words.{Stands, FieldAt}
-use Rattle.quick.specs.Lines.{stopOf, fieldsFrom, endFrom, Told, ValueAt}
+use Rattle.quick.specs.Lines.{stopOf, Told, ValueAt}
 
 -- ---- a word without a byte
 

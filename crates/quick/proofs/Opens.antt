@@ -14,11 +14,12 @@ use Rattle.fields.proofs.Heads.{good-three}
 use Rattle.signed.specs.Naturals.{naturalOf}
 use Rattle.signed.specs.declared.Natural.the-variants as Natural
 use Rattle.reading.specs.Places.{lineAt}
+use Rattle.reading.specs.Rests.{fieldsFrom, endFrom}
 use Rattle.quick.specs.declared.Begins.{Begins}
 use Rattle.quick.specs.declared.Begins.the-variants.{Six, Doubt}
 use Rattle.quick.specs.declared.head.Counted.{Counted}
 use Rattle.quick.specs.declared.head.Counted.the-variants as Counted
-use Rattle.quick.specs.Lines.{fieldsFrom, endFrom, Told, CountAt, OpensAt, PlaceAt, BeginsAt}
+use Rattle.quick.specs.Lines.{Told, CountAt, OpensAt, PlaceAt, BeginsAt}
 
 -- "Number of data fields: 0 to 999"
 pub count-here : (s : List ℕ) (at : ℕ) (ended : Bool) (next n : ℕ) {u v : ℤ} → u ≡ v → naturalOf 999 u ≡ Natural.Of n

@@ -12,10 +12,10 @@ use Rattle.paper.specs.Line.{six}
 use Rattle.paper.specs.declared.Data.{Data}
 use Rattle.paper.specs.declared.Head.{Head}
 use Rattle.reading.specs.Places.{lineAt, nextLine}
+use Rattle.reading.specs.Rests.{fieldsFrom, endFrom}
 use Rattle.quick.specs.declared.Begins.the-variants as Begins
 use Rattle.quick.specs.declared.Holds.the-variants as Holds
-use Rattle.quick.specs.declared.Ends.the-variants as Ends
-use Rattle.quick.specs.Lines.{fieldsFrom, endFrom, OpensAt, BeginsAt, DataAt, HoldsAt, EndsAt}
+use Rattle.quick.specs.Lines.{OpensAt, BeginsAt, DataAt, HoldsAt}
 
 index-within : (b : ℕ) (l : List ℕ) → indexOf b l ≤ length l
 unfolding indexOf indexAfter
@@ -55,7 +55,3 @@ pub one-data : (s : List ℕ) (ended : Bool) (at k : ℕ) (v w : Data) (n m : �
     → Holds.Of v n ≡ Holds.Of w m
 unfolding HoldsAt DataAt
 one-data s ended at k v w n m e f = rw (e .is, f .is, ← e .ends, ← f .ends)
-
-pub one-end : (s : List ℕ) (ended : Bool) (at k n m : ℕ) → EndsAt s ended at k (Ends.At n) → EndsAt s ended at k (Ends.At m) → Ends.At n ≡ Ends.At m
-unfolding EndsAt
-one-end s ended at k n m e f = ap Ends.At (sym (e .ends) ∙ f .ends)

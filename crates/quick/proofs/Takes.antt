@@ -18,10 +18,11 @@ use Rattle.field.specs.Cursor.{readAs}
 use Rattle.field.specs.declared.Form.{Form}
 use Rattle.field.specs.declared.Form.the-variants.{Whole, Time}
 use Rattle.reading.specs.Places.{lineAt, nextLine}
+use Rattle.reading.specs.Rests.{fieldsFrom, endFrom, Ended}
 use Rattle.values.proofs.Values.{not-three, with-descriptor}
 use Rattle.quick.specs.declared.Holds.{Holds}
 use Rattle.quick.specs.declared.Holds.the-variants as Holds
-use Rattle.quick.specs.Lines.{fieldsFrom, endFrom, Told, Ended, inForm, lastOf, DataAt, HoldsAt}
+use Rattle.quick.specs.Lines.{Told, inForm, lastOf, DataAt, HoldsAt}
 
 -- values before those that are still to come
 abbrev prefixed : List ℤ → Option (List ℤ) → Option (List ℤ)

@@ -1,14 +1,13 @@
 -- What the answers say of the line in which the cursor stands.
-use Prim.Native.Nat.{ℕ, _+_, _≤_}
+use Prim.Native.Nat.{ℕ, _≤_}
 use mathlib.Core.Path.{_≡_}
 use mathlib.Core.List.{List}
 use mathlib.Core.Bool.{Bool, true, false, cond}
-use mathlib.Core.Option.{Option, none, some}
-use lib.ListN.{length, drop}
+use mathlib.Core.Option.{Option, some}
+use lib.ListN.{length}
 use lib.IntN.{ℤ, pos}
 use lib.Dec.{eqb}
-use Rattle.bytes.specs.Bytes.{indexOf}
-use Rattle.paper.specs.Line.{first, firstOf, countOf, Begun, six, placeOf, headOf, valuesOf, asWholes, asOthers, dataOf, goodEnd}
+use Rattle.paper.specs.Line.{first, firstOf, countOf, Begun, six, placeOf, headOf, valuesOf, asWholes, asOthers, dataOf}
 use Rattle.paper.specs.declared.Field.{Field}
 use Rattle.paper.specs.declared.Data.{Data}
 use Rattle.paper.specs.declared.Data.the-variants.{Three, Others}
@@ -16,12 +15,11 @@ use Rattle.field.specs.Cursor.{readAs}
 use Rattle.field.specs.declared.Form.{Form}
 use Rattle.field.specs.declared.Form.the-variants.{Whole, Time}
 use Rattle.reading.specs.Places.{lineAt, nextLine}
+use Rattle.reading.specs.Rests.{fieldsFrom, endFrom, Ended}
 use Rattle.quick.specs.declared.Begins.{Begins}
 use Rattle.quick.specs.declared.Begins.the-variants as Begins
 use Rattle.quick.specs.declared.Holds.{Holds}
 use Rattle.quick.specs.declared.Holds.the-variants as Holds
-use Rattle.quick.specs.declared.Ends.{Ends}
-use Rattle.quick.specs.declared.Ends.the-variants as Ends
 use Rattle.quick.specs.declared.head.Counted.{Counted}
 use Rattle.quick.specs.declared.head.Counted.the-variants as Counted
 use Rattle.quick.specs.declared.number.Number.{Number}
@@ -33,16 +31,6 @@ use Rattle.quick.specs.declared.number.Number.the-variants as Number
 unfoldable pub stopOf : Bool → ℕ
 stopOf true = 10
 stopOf false = 32
-
--- the fields that follow: none, or those from the cursor on
-unfoldable pub fieldsFrom : List ℕ → Bool → ℕ → Option (List ℕ)
-fieldsFrom s true at = none
-fieldsFrom s false at = some (lineAt s at)
-
--- where the next line starts: at the cursor, or where the cursor's line ends
-unfoldable pub endFrom : List ℕ → Bool → ℕ → ℕ
-endFrom s true at = at
-endFrom s false at = nextLine s at
 
 -- what a line from a place on comes to, with what follows and where
 pub record Told {A : Type 0} (said : A) (more : Option (List ℕ) → A) (s : List ℕ) (at : ℕ) (ended : Bool) (next : ℕ) : Type 0 where
@@ -74,12 +62,6 @@ BeginsAt s at = OpensAt (headOf (lineAt s at)) s at
 
 -- ---- what follows them
 
--- what is told of the fields from a cursor on, and where the next line starts
-pub record Ended {A : Type 0} (said there : A) (s : List ℕ) (ended : Bool) (at next : ℕ) : Type 0 where
-  pub is : said ≡ there
-  pub ends : endFrom s ended at ≡ next
-  pub near : at ≤ length s → next ≤ length s
-
 -- n values in a form, as the descriptor has them
 unfoldable pub inForm : Form → ℕ → Option (List ℕ) → Data
 inForm Whole n fields = asWholes (valuesOf (readAs Whole) n fields)
@@ -96,13 +78,3 @@ DataAt there s ended at Holds.Doubt = Unit
 
 unfoldable pub HoldsAt : List ℕ → Bool → ℕ → ℕ → Holds → Type 0
 HoldsAt s ended at n = DataAt (dataOf n) s ended at
-
-unfoldable pub EndsAt : List ℕ → Bool → ℕ → ℕ → Ends → Type 0
-EndsAt s ended at n (Ends.At next) = Ended true (goodEnd n (fieldsFrom s ended at)) s ended at next
-EndsAt s ended at n Ends.Doubt = Unit
-
--- no LF between two places
-pub record Clear (s : List ℕ) (at to : ℕ) : Type 0 where
-  pub index : at + indexOf 10 (drop at s) ≡ to + indexOf 10 (drop to s)
-  pub low : at ≤ to
-  pub high : to ≤ length s

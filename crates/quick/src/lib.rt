@@ -5,9 +5,8 @@ mod digits;
 mod head;
 mod number;
 mod stamp;
-mod tail;
 
-ghost use Rattle.quick.specs.Lines.{BeginsAt, HoldsAt, EndsAt};
+ghost use Rattle.quick.specs.Lines.{BeginsAt, HoldsAt};
 use paper::Data;
 use paper::Head;
 
@@ -20,12 +19,6 @@ pub enum Begins {
 // The data of a line that ends with them, and where the next line starts.
 pub enum Holds {
     Of(Data, usize),
-    Doubt,
-}
-
-// Where the line after one that is not read to its end starts.
-pub enum Ends {
-    At(usize),
     Doubt,
 }
 
@@ -52,14 +45,4 @@ pub fn read_data(s: &[u8], ended: bool, at: usize, n: usize) -> Holds
         return body::none(n, at);
     }
     body::some(s, at, n)
-}
-
-// "with a data count above zero a space and at least one more byte must follow, otherwise LF. Its other bytes are free."
-pub fn read_end(s: &[u8], ended: bool, at: usize, n: usize) -> Ends
-    ensures { λ r. ⌜ EndsAt (now (s .entry)) ended at n r ⌝ }
-{
-    if ended {
-        return tail::none(n, at);
-    }
-    tail::some(s, at, n)
 }

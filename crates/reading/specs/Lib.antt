@@ -3,3 +3,4 @@ pub mod Joined
 pub mod Tidy
 pub mod Starts
 pub mod Places
+pub mod Rests

@@ -1,8 +1,8 @@
 -- The line has ended.
-use Rattle.quick.specs.Lines.{EndsAt}
-use Rattle.quick.proofs.Tails.{ended-here}
-use Rattle.quick.proofs.tail.none.Statement.{statement}
-use Rattle.quick.proofs.tail.none.Tie as tie
+use Rattle.tail.specs.Ends.{EndsAt}
+use Rattle.tail.proofs.Tails.{ended-here}
+use Rattle.tail.proofs.none.Statement.{statement}
+use Rattle.tail.proofs.none.Tie as tie
 
 returns : tie.Need-returns
 returns c = λ s. ended-here s _ _ (c .if1 .taken)

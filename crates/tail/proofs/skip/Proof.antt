@@ -3,10 +3,10 @@ use Prim.Native.Nat.{_-_}
 use lib.ListN.{length}
 use native.Mathlib.Omega.{arith}
 use borrow.Author.Tests.{not-false}
-use Rattle.quick.specs.Lines.{Clear}
-use Rattle.quick.proofs.Tails.{clear-none, clear-on}
-use Rattle.quick.proofs.tail.skip.Statement.{statement}
-use Rattle.quick.proofs.tail.skip.Tie as tie
+use Rattle.tail.specs.Ends.{Clear}
+use Rattle.tail.proofs.Clears.{clear-none, clear-on}
+use Rattle.tail.proofs.skip.Statement.{statement}
+use Rattle.tail.proofs.skip.Tie as tie
 
 abbrev Inv-loop : tie.InvT-loop
 Inv-loop s at i₀ i = Clear s at i

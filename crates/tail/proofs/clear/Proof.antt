@@ -6,10 +6,10 @@ use mathlib.Core.Bool.{false}
 use mathlib.Core.Path.{_≡_}
 use borrow.Author.Tests.{not-true}
 use native.Mathlib.Omega.{arith}
-use Rattle.quick.specs.Lines.{Clear}
-use Rattle.quick.proofs.Tails.{clear-none, clear-more}
-use Rattle.quick.proofs.tail.clear.Statement.{statement}
-use Rattle.quick.proofs.tail.clear.Tie as tie
+use Rattle.tail.specs.Ends.{Clear}
+use Rattle.tail.proofs.Clears.{clear-none, clear-more}
+use Rattle.tail.proofs.clear.Statement.{statement}
+use Rattle.tail.proofs.clear.Tie as tie
 
 abbrev Inv-loop : tie.InvT-loop
 Inv-loop s at hit₀ j₀ hit j = (hit ≡ false → Clear s at (at + j)) × (j ≤ 16)

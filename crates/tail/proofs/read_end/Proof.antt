@@ -1,7 +1,7 @@
 -- The line has ended, or it goes on.
 use borrow.Author.Needs.{needs}
-use Rattle.quick.proofs.read_end.Statement.{statement}
-use Rattle.quick.proofs.read_end.Tie as tie
+use Rattle.tail.proofs.read_end.Statement.{statement}
+use Rattle.tail.proofs.read_end.Tie as tie
 
 none-requires : tie.Need-none-requires
 none-requires c κs = search needs

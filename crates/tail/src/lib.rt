@@ -1,14 +1,20 @@
-// The end of a line that is not read any further.
+// The end of a line that is not read any further, from a cursor behind its six fields on: where the next line starts, or doubt, which is
+// crate line's to settle. Apart from crate quick because it reads no numbers and needs nothing of what does.
 ghost use mathlib.Core.Path.{_≡_};
 ghost use Prim.Native.Nat.{ℕ, _+_, _≤_};
 ghost use mathlib.Core.List.{List};
 ghost use mathlib.Core.Bool.{true, false};
 ghost use lib.ListN.{length};
-ghost use Rattle.quick.specs.Lines.{Clear, EndsAt};
-use crate::Ends;
+ghost use Rattle.tail.specs.Ends.{Clear, EndsAt};
+
+// Where the line after one that is not read to its end starts.
+pub enum Ends {
+    At(usize),
+    Doubt,
+}
 
 // The line ends here.
-pub(crate) fn none(n: usize, at: usize) -> Ends
+fn none(n: usize, at: usize) -> Ends
     ensures { λ r. ⌜ ((s : List ℕ) → EndsAt s true at n r) ⌝ }
 {
     if n == 0 {
@@ -47,7 +53,7 @@ fn skip(s: &[u8], at: usize) -> usize
 }
 
 // "a space and at least one more byte must follow", and then an LF
-pub(crate) fn some(s: &[u8], at: usize, n: usize) -> Ends
+fn some(s: &[u8], at: usize, n: usize) -> Ends
     ensures { λ r. ⌜ EndsAt (now (s .entry)) false at n r ⌝ }
 {
     if n == 0 {
@@ -64,4 +70,14 @@ pub(crate) fn some(s: &[u8], at: usize, n: usize) -> Ends
         return Ends::Doubt;
     }
     Ends::At(end + 1)
+}
+
+// "with a data count above zero a space and at least one more byte must follow, otherwise LF. Its other bytes are free."
+pub fn read_end(s: &[u8], ended: bool, at: usize, n: usize) -> Ends
+    ensures { λ r. ⌜ EndsAt (now (s .entry)) ended at n r ⌝ }
+{
+    if ended {
+        return none(n, at);
+    }
+    some(s, at, n)
 }

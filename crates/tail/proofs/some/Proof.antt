@@ -1,9 +1,9 @@
 -- A byte that is no LF, and the LF behind it.
-use Rattle.quick.specs.Lines.{EndsAt}
-use Rattle.quick.proofs.Tails.{end-here}
+use Rattle.tail.specs.Ends.{EndsAt}
+use Rattle.tail.proofs.Tails.{end-here}
 use borrow.Author.Needs.{needs}
-use Rattle.quick.proofs.tail.some.Statement.{statement}
-use Rattle.quick.proofs.tail.some.Tie as tie
+use Rattle.tail.proofs.some.Statement.{statement}
+use Rattle.tail.proofs.some.Tie as tie
 
 returns : tie.Need-returns
 unfolding EndsAt
