@@ -14,7 +14,7 @@ use Rattle.store.specs.Layout.{tooMany, entriesIn}
 use Rattle.store.proofs.Listed.{length-listed, listed-at}
 use Rattle.store.proofs.Laws.{length-entries}
 use Rattle.chains.specs.Places.{placesOf, Places, placesFit, found}
-use Rattle.chains.specs.Chains.{Placed}
+use Rattle.chains.specs.Chains.{Placed, Placing}
 use Rattle.chains.proofs.Places.{length-places}
 
 -- a slice is filled to its end
@@ -23,7 +23,7 @@ all-filled l d i v e h = rw (h, e, drop-of-length-le d {i = i} (omega arith)) (a
 
 -- ---- the places
 
-pub all-placed : (l : List ℕ) (n : ℕ) (sends : List ℕ) → length sends ≡ n → Placed l n sends n → sends ≡ placesOf (entriesIn l n)
+all-placed : (l : List ℕ) (n : ℕ) (sends : List ℕ) → length sends ≡ n → Placed l n sends n → sends ≡ placesOf (entriesIn l n)
 unfolding placesOf
 all-placed l n sends size h =
     rw (length-entries l n)
@@ -61,10 +61,13 @@ module _ (store : List ℕ) (sends link : List ℕ) where
   unfolding found
   not-found h = rw h
 
-  pub all-found : placesFit sends link ≡ true → {places links : List ℕ} → places ≡ placesOf (entriesIn store (length sends))
-      → links ≡ replicate (length sends) 0 → _≡_ {A = Places} (record { sends = places; link = links }) (found store sends link)
+  -- the slices fit, the places are put, and the links cleared
+  pub all-found : length link ≡ length sends → length sends < tooMany → {places links heads seen cleared : List ℕ}
+      → Placing store (length sends) places links heads seen (length sends) → cleared ≡ replicate (length links) 0
+      → _≡_ {A = Places} (record { sends = places; link = cleared }) (found store sends link)
   unfolding found
-  all-found h a b = rw (h, a, b)
+  all-found h g {places} p e =
+      rw (they-fit sends link h g, all-placed store (length sends) places (p .size) (p .placed), e, p .chained .size)
 
   -- what a caller learns where the slices fit
   module _ (h : placesFit sends link ≡ true) (p : Places) (e : p ≡ found store sends link) where

@@ -129,7 +129,7 @@ module _ (l : List ℕ) (n : ℕ) (sends link heads seen : List ℕ) (i : ℕ) (
     back-of : (c : ℕ) → receiveIn l c i ≡ true → Last (receiveIn l c) i (getD seen b 0)
     back-of c f = let z : b ≡ c = eqb-true b c (sym (is-in c) ∙ f) in rw (← z) before
 
-    pub place-receive : (s : ℕ) → s ≡ sendUnderAt (entriesIn l n) (keyOf k) (getD seen b 0)
+    place-receive : (s : ℕ) → s ≡ sendUnderAt (entriesIn l n) (keyOf k) (getD seen b 0)
         → Placing l n (set sends i s) (set link i (getD seen b 0)) heads (set seen b (i + 1)) (i + 1)
     place-receive s f =
         record {
@@ -161,3 +161,9 @@ module _ (l : List ℕ) (n : ℕ) (sends link heads seen : List ℕ) (i : ℕ) (
 
     pub place-send : {k : Key} → side ≡ Sends k → Placing l n (set sends i n) link heads seen (i + 1)
     place-send {k} f = place-none (by-side (Sends k) f) (λ b. ap (receivesIn b) (sym e ∙ f))
+
+    -- a receive under a key of bucket b, behind which the search found s
+    pub place-found : {k : Key} → side ≡ Receives k → {b : ℕ} → b ≡ bucketOf k
+        → {s : ℕ} → s ≡ sendUnderAt (entriesIn l (length link)) (keyOf k) (getD seen b 0)
+        → Placing l n (set sends i s) (set link i (getD seen b 0)) heads (set seen b (i + 1)) (i + 1)
+    place-found {k} f p q = rw p (place-receive k (sym e ∙ f) _ (rw (h .chained .size, p) at q))

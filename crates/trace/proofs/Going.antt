@@ -70,7 +70,15 @@ module _ {choice : Choice} {s : List ℕ} {at : ℕ} {x : Line} where
   unfolding nextLine
   further here = omega (arith, here .ends)
 
+  -- a turn leaves less of the trace
+  pub shorter : {next : ℕ} → Here choice s at x next → length s - next < length s - at
+  shorter here = omega (arith, further here, here .near)
+
 -- ---- a turn
+
+-- two times compared as the machine holds them
+pub compared : {early : Bool} {a b x y : ℤ} → early ≡ ltZ a b → a ≡ x → b ≡ y → early ≡ ltZ x y
+compared tells p q = rw (← p, ← q) tells
 
 module _ {choice : Choice} {s store₀ : List ℕ} {most : ℕ} {store : List ℕ} {last : List ℤ} {listed passed at n : ℕ}
     (going : Going choice s store₀ most store last listed passed at n) where

@@ -76,10 +76,17 @@ held (wrote {word = word} is h) e = record { word = word; is = is; fits = h }
 held (no-room is h) e = never (cc)
 held (misfit is) e = never (cc)
 
-pub untouched : {bytes : Option (List ℕ)} {room : List ℕ} {r : Written} {after : List ℕ} → Tells bytes room r after → ((n : ℕ) → r ≡ Length n → ⊥) → after ≡ room
+untouched : {bytes : Option (List ℕ)} {room : List ℕ} {r : Written} {after : List ℕ} → Tells bytes room r after → ((n : ℕ) → r ≡ Length n → ⊥) → after ≡ room
 untouched (wrote is h) e = absurd (e _ refl)
 untouched (no-room is h) e = refl
 untouched (misfit is) e = refl
+
+module _ {s store : List ℕ} {times : List ℤ} {room : List ℕ} {r : Written} (is : r ≡ answerOf (bytesFor s store times) (length room)) where
+  pub left-short : r ≡ NoRoom → WrittenInto s store times room NoRoom room
+  left-short e = record { answer = sym e ∙ is; holds = sym (untouched (tells _ room) (λ n p. never (cc))) }
+
+  pub left-unfit : r ≡ Unfit → WrittenInto s store times room Unfit room
+  left-unfit e = record { answer = sym e ∙ is; holds = sym (untouched (tells _ room) (λ n p. never (cc))) }
 
 -- ---- one outcome
 

@@ -1,9 +1,10 @@
 -- The loop that sums: the written trace is as much longer than the trace as the new stamps go beyond the old ones.
 use Prim.Native.Nat.{ℕ, _+_, _-_, _*_, _≤_, _<_}
-use mathlib.Core.Path.{_≡_, refl}
+use mathlib.Core.Path.{_≡_, refl, sym, _∙_}
 use mathlib.Core.List.{List}
-use mathlib.Core.Bool.{true, false}
+use mathlib.Core.Bool.{Bool, true, false, not}
 use native.Mathlib.Omega.{arith}
+use borrow.Author.Tests.{not-true, not-false}
 use lib.ListN.{length, getD, length-append, length-drop}
 use lib.IntN.{ℤ, pos}
 use Rattle.shown.specs.Writes.{shownLength}
@@ -32,13 +33,17 @@ module _ {s : List ℕ} {store : List ℕ} {times : List ℤ} {from gained lost 
       (omega (arith, summing .less, summing .going .inside))
 
   -- the next stamp, and the test whether it is in its place
-  module _ (left : k < length times) {r : Stamp} (found : StampOf s store k r) {t : ℤ} (is : t ≡ getD times k (pos 0)) {new : ℕ} (takes : new ≡ shownLength t) where
-    pub not-placed : inPlace (length s - from) (length s - r .at) (r .long) new ≡ false → Changed s (bytesFor s store times) Unfit
-    not-placed e = unfit (misplaced (summing .going) left found is (rw takes at e))
+  module _ (left : k < length times) {r : Stamp} (found : StampOf s store k r) {t : ℤ} (is : t ≡ getD times k (pos 0)) {new : ℕ} (takes : new ≡ shownLength t)
+      {ok : Bool} (told : ok ≡ inPlace (length s - from) (length s - r .at) (r .long) new) where
+    test : {b : Bool} → ok ≡ b → inPlace (length s - from) (length s - r .at) (r .long) (shownLength t) ≡ b
+    test e = rw takes at (sym told ∙ e)
 
-    module _ (e : inPlace (length s - from) (length s - r .at) (r .long) new ≡ true) where
+    pub not-placed : not ok ≡ true → Changed s (bytesFor s store times) Unfit
+    not-placed e = unfit (misplaced (summing .going) left found is (test (not-true ok e)))
+
+    module _ (e : not ok ≡ false) where
       placed : inPlace (length s - from) (length s - r .at) (r .long) (shownLength t) ≡ true
-      placed = rw takes at e
+      placed = test (not-false ok e)
 
       pub stamp-sound : Sound s from r new
       stamp-sound = rw takes (sound (summing .going) left found is placed)

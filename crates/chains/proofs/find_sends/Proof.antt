@@ -1,9 +1,7 @@
 -- `chains::find_sends` meets its contract: the sends are chained, then placed, and the links cleared.
-use Prim.Native.Nat.{ℕ}
-use mathlib.Core.Path.{refl, ap, _∙_}
-use lib.ListN.{replicate}
+use mathlib.Core.Path.{refl}
 use Rattle.chains.proofs.Place.{place-begins}
-use Rattle.chains.proofs.Outcomes.{all-placed, links-differ, too-many, they-fit, not-found, all-found}
+use Rattle.chains.proofs.Outcomes.{links-differ, too-many, not-found, all-found}
 use borrow.Author.Needs.{needs}
 use Rattle.chains.proofs.find_sends.Statement.{statement}
 use Rattle.chains.proofs.find_sends.Tie as tie
@@ -56,10 +54,8 @@ same-length-2 c = search needs
 returns-3 : tie.Need-returns-3
 returns-3 c =
     let placed = c .before .before .before .before .before .before .before .before .before in
-    let chained = placed .before .before .before .before .before .before .before .before .before in
-    let few = chained .before .before .before .before in
-    let p = placed .place-sends .ensures in
-    all-found _ _ _ (they-fit _ _ (few .before .if1 .left) (few .if2 .left)) (all-placed _ _ _ (p .size) (p .placed)) (c .before .before .clear .ensures ∙ ap (λ (k : ℕ). replicate k 0) (p .chained .size))
+    let few = placed .before .before .before .before .before .before .before .before .before .before .before .before .before in
+    all-found _ _ _ (few .before .if1 .left) (few .if2 .left) (placed .place-sends .ensures) (c .before .before .clear .ensures)
 
 pub find-sends-spec : {M : Type 1} → statement M
 find-sends-spec =

@@ -1,7 +1,7 @@
 -- `chains::place_one` meets its contract: only a receive has a send, which the search finds, and is put behind its bucket.
 use mathlib.Core.Path.{sym, _∙_}
 use borrow.Author.Needs.{needs}
-use Rattle.chains.proofs.Place.{place-neither, place-send, place-receive, search-ready}
+use Rattle.chains.proofs.Place.{place-neither, place-send, place-found, search-ready}
 use Rattle.chains.proofs.place_one.Statement.{statement}
 use Rattle.chains.proofs.place_one.Tie as tie
 
@@ -116,11 +116,7 @@ returns-3 c =
     let known = bucket .before .before in
     let side = known .before .before in
     let h = side .before .before .before .before .before .before .pre in
-    let k = known .side .given in
-    let b = bucket .bucket-of .ensures .is in
-    rw b
-    (place-receive _ _ _ _ _ _ _ (h .0) (h .1) (k .0 .0) (sym (side .side-at .ensures) ∙ k .1) (c .send-behind .result)
-    (rw (h .1 .chained .size, b) at (c .send-behind .ensures)))
+    place-found _ _ _ _ _ _ _ (h .0) (h .1) (side .side-at .ensures) (known .side .given .1) (bucket .bucket-of .ensures .is) (c .send-behind .ensures)
 
 pub place-one-spec : {M : Type 1} → statement M
 place-one-spec =

@@ -55,22 +55,22 @@ returns-2 c =
     answered (givenOf (a .trace .now) (a .latencies .now) (a .asked) (a .places)) (a .store .now) (a .sends .now) (a .before .now) (a .latency .now) (a .times .now) (a .spare .now) (fit .before .before .capacity .ensures) (fit .before .fit .ensures) (not-false _ (fit .if1 .left)) _ _ _ _ (cleared-refused (givenOf (a .trace .now) (a .latencies .now) (a .asked) (a .places)) _ (check .check .ensures) (c .before .fault .given .1))
 
 same-length-3 : tie.Need-same-length-3
-same-length-3 c = search needs
+same-length-3 c = c .before .before .before .before .before .before .before .before .before .store .given
 
 same-length-4 : tie.Need-same-length-4
-same-length-4 c = search needs
+same-length-4 c = c .before .before .before .before .before .before .before .sends .given
 
 same-length-5 : tie.Need-same-length-5
-same-length-5 c = search needs
+same-length-5 c = c .before .before .before .before .before .before2 .given
 
 same-length-6 : tie.Need-same-length-6
-same-length-6 c = search needs
+same-length-6 c = c .before .before .before .latency .given
 
 same-length-7 : tie.Need-same-length-7
-same-length-7 c = search needs
+same-length-7 c = c .before .times .given
 
 same-length-8 : tie.Need-same-length-8
-same-length-8 c = search needs
+same-length-8 c = c .spare .given
 
 returns-3 : tie.Need-returns-3
 unfolding most

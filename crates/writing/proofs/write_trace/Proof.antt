@@ -1,8 +1,7 @@
 -- Written where the answer is a length; else the room is as it was.
 use mathlib.Core.Path.{sym, _∙_}
 use borrow.Author.Needs.{needs}
-use Rattle.forms.proofs.Tests.{never}
-use Rattle.writing.proofs.Outcomes.{tells, held, untouched}
+use Rattle.writing.proofs.Outcomes.{tells, held, left-short, left-unfit}
 use Rattle.writing.proofs.write_trace.Statement.{statement}
 use Rattle.writing.proofs.write_trace.Tie as tie
 
@@ -32,14 +31,10 @@ returns c =
     record { answer = sym (k .n .given .1) ∙ k .before .before .measure .ensures; holds = c .before .before .fill .ensures }
 
 returns-2 : tie.Need-returns-2
-returns-2 c =
-    let answer = sym (c .enum-told .given .1) ∙ c .before .before .measure .ensures in
-    record { answer = answer; holds = sym (untouched (tells _ _) (λ n e. never (cc))) }
+returns-2 c = left-short (c .before .before .measure .ensures) (c .enum-told .given .1)
 
 returns-3 : tie.Need-returns-3
-returns-3 c =
-    let answer = sym (c .enum-told2 .given .1) ∙ c .before .before .measure .ensures in
-    record { answer = answer; holds = sym (untouched (tells _ _) (λ n e. never (cc))) }
+returns-3 c = left-unfit (c .before .before .measure .ensures) (c .enum-told2 .given .1)
 
 pub write-trace-spec : {M : Type 1} → statement M
 write-trace-spec =

@@ -5,7 +5,8 @@ use Rattle.quick.specs.Lines.{PlaceAt, OpensAt, stopOf}
 use Rattle.paper.specs.Forms.{wholeOf}
 use Rattle.quick.proofs.Moves.{whole-clean, field-told}
 use Rattle.quick.proofs.Opens.{counted, place-here}
-use borrow.Author.Needs.{needs}
+use borrow.Author.Needs.{needs, sfits-of}
+use mir.Facts.{toZ-ofZ}
 use Rattle.quick.proofs.head.place.Statement.{statement}
 use Rattle.quick.proofs.head.place.Tie as tie
 
@@ -72,7 +73,9 @@ returns-4 c =
     let k₄ = field-told wholeOf whole-clean _ _ _ false _ (c₁₁ .whole .ensures) _ _ (c₉ .processor .given .1) in
     let k₅ = field-told wholeOf whole-clean _ _ _ false _ (c₇ .whole2 .ensures) _ _ (c₅ .process .given .1) in
     let k₆ = counted _ _ _ (c₃ .count .ensures) _ _ _ (c .before .n .given .1) in
-    place-here _ _ _ _ _ _ _ (search needs) (search needs) (search needs) (search needs) (search needs) (k₄ .0) (k₅ .0) k₆
+    let fits = c₁₁ .before .before .fits in
+    place-here _ _ _ _ _ _ _ (toZ-ofZ (fits .kind)) (toZ-ofZ (fits .event)) (toZ-ofZ (fits .time)) (toZ-ofZ (sfits-of (c₇ .before .known-told .given .0 .1)))
+    (toZ-ofZ (sfits-of (c₃ .before .known-told2 .given .0 .1))) (k₄ .0) (k₅ .0) k₆
 
 pub place-spec : {M : Type 1} → statement M
 place-spec =

@@ -5,7 +5,8 @@ use Rattle.quick.specs.Lines.{BeginsAt, OpensAt, stopOf}
 use Rattle.paper.specs.Forms.{wholeOf, timeOf}
 use Rattle.quick.proofs.Moves.{whole-clean, time-clean, field-told}
 use Rattle.quick.proofs.Opens.{six-here}
-use borrow.Author.Needs.{needs}
+use borrow.Author.Needs.{needs, sfits-of}
+use mir.Facts.{toZ-ofZ}
 use Rattle.quick.proofs.head.six.Statement.{statement}
 use Rattle.quick.proofs.head.six.Tie as tie
 
@@ -78,13 +79,19 @@ place-requires c κs =
 returns-4 : tie.Need-returns-4
 unfolding stopOf
 returns-4 c =
-    let k₁ = let k = c .before .before .before .before .before .before .before .before .before .before in
-    field-told wholeOf whole-clean _ _ _ false _ (k .before .before .whole .ensures) _ _ (k .kind .given .1) in
-    let k₂ = let k = c .before .before .before .before .before .before in
-    field-told wholeOf whole-clean _ _ _ false _ (k .before .before .whole2 .ensures) _ _ (k .event .given .1) in
-    let k₃ = let k = c .before .before in
-    field-told timeOf time-clean _ _ _ false _ (k .before .before .time .ensures) _ _ (k .time2 .given .1) in
-    six-here _ _ _ _ _ (search needs) (search needs) (search needs) (k₁ .0) (k₂ .0) (k₃ .0) _ (c .place .ensures)
+    let c₁ = c .before in
+    let c₂ = c₁ .before in
+    let c₄ = c₂ .before .before in
+    let c₅ = c₄ .before in
+    let c₆ = c₅ .before in
+    let c₈ = c₆ .before .before in
+    let c₉ = c₈ .before in
+    let c₁₀ = c₉ .before in
+    let k₁ = field-told wholeOf whole-clean _ _ _ false _ (c₁₀ .before .before .whole .ensures) _ _ (c₁₀ .kind .given .1) in
+    let k₂ = field-told wholeOf whole-clean _ _ _ false _ (c₈ .whole2 .ensures) _ _ (c₆ .event .given .1) in
+    let k₃ = field-told timeOf time-clean _ _ _ false _ (c₄ .time .ensures) _ _ (c₂ .time2 .given .1) in
+    six-here _ _ _ _ _ (toZ-ofZ (sfits-of (c₉ .known-told .given .0 .1))) (toZ-ofZ (sfits-of (c₅ .known-told2 .given .0 .1)))
+    (toZ-ofZ (sfits-of (c₁ .known-told3 .given .0 .1))) (k₁ .0) (k₂ .0) (k₃ .0) _ (c .place .ensures)
 
 pub six-spec : {M : Type 1} → statement M
 six-spec =

@@ -56,25 +56,27 @@ told-requires : tie.Need-told-requires
 told-requires c κs = search needs
 
 same-length : tie.Need-same-length
-same-length c = search needs
+same-length c = c .before .before .before .before .before .before .before .before .sends .given .1
 
 same-length-2 : tie.Need-same-length-2
-same-length-2 c = search needs
+same-length-2 c = c .before .before .before .before .before .before .before2 .given .1
 
 same-length-3 : tie.Need-same-length-3
-same-length-3 c = search needs
+same-length-3 c = c .before .before .before .before .latency .given .1
 
 same-length-4 : tie.Need-same-length-4
-same-length-4 c = search needs
+same-length-4 c = c .before .before .times .given .1
 
 same-length-5 : tie.Need-same-length-5
-same-length-5 c = search needs
+same-length-5 c = c .before .spare .given .1
 
 returns : tie.Need-returns
 returns c =
-    let start = c .before .before .before .before .before .before .before .before .before .before .before .before .before .before .before .before .before .before .before .before in
-    settled _ _ (start .args .listed) (start .args .passed) (start .pre .0) (start .pre .1 .0) (start .pre .1 .1) _ _ _ (c .before .before .before .before .before .before .before .before .before .solve .ensures)
-    (search needs) (search needs) _ _ _ (c .told .ensures)
+    let c₉ = c .before .before .before .before .before .before .before .before .before in
+    let start = c₉ .before .before .before .before .before .before .before .before .before .before .before in
+    let solve = c₉ .solve in
+    settled _ _ (start .args .listed) (start .args .passed) (start .pre .0) (start .pre .1 .0) (start .pre .1 .1) _ _ _ (solve .ensures)
+    (solve .kept .1 .1 .0) (solve .kept .1 .1 .1 .1 .1 .0) _ _ _ (c .told .ensures)
 
 pub settle-spec : {M : Type 1} → statement M
 settle-spec =

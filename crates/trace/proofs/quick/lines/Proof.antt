@@ -1,11 +1,11 @@
 -- `trace::quick::lines` meets its contract. What is left to read gives, with the records put so far, the whole reading.
 use Prim.Native.Nat.{_-_}
-use mathlib.Core.Path.{_∙_}
 use native.Mathlib.Omega.{arith}
-use borrow.Author.Needs.{needs}
+use borrow.Author.Needs.{needs, sfits-of}
 use lib.ListN.{length}
+use mir.Facts.{toZ-ofZ}
 use Rattle.trace.specs.Going.{Going}
-use Rattle.trace.proofs.Going.{going-start, answered, further, processor-in, line-passed, line-listed}
+use Rattle.trace.proofs.Going.{going-start, answered, shorter, compared, processor-in, line-passed, line-listed}
 use Rattle.trace.proofs.quick.lines.Statement.{statement}
 use Rattle.trace.proofs.quick.lines.Tie as tie
 
@@ -54,8 +54,7 @@ add-n c = search needs
 loop-less : tie.Need-loop-less Inv-loop μ-loop
 loop-less c =
     let c₃ = c .before .before .before in
-    let here = answered (c₃ .before .before .quick-line .ensures) (c₃ .line .given .1) in
-    omega (arith, further here, here .near)
+    shorter (answered (c₃ .before .before .quick-line .ensures) (c₃ .line .given .1))
 
 loop-again : tie.Need-loop-again Inv-loop μ-loop
 loop-again c =
@@ -121,8 +120,7 @@ add-n-2 c =
 loop-less-2 : tie.Need-loop-less-2 Inv-loop μ-loop
 loop-less-2 c =
     let c₁₃ = c .before .before .before .before .before .before .before .before .before .before .before .before .before in
-    let here = answered (c₁₃ .before .before .quick-line .ensures) (c₁₃ .line .given .1) in
-    omega (arith, further here, here .near)
+    shorter (answered (c₁₃ .before .before .quick-line .ensures) (c₁₃ .line .given .1))
 
 loop-again-2 : tie.Need-loop-again-2 Inv-loop μ-loop
 loop-again-2 c =
@@ -131,8 +129,10 @@ loop-again-2 c =
     let c₁₀ = c₆ .before .before .before .before in
     let c₁₃ = c₁₀ .before .before .before in
     let here = answered (c₁₃ .before .before .quick-line .ensures) (c₁₃ .line .given .1) in
-    line-listed (c₁₃ .before .before .before .before .loop .inv) here _ (c₁₀ .line2 .given .1) _ (c₆ .earlier .ensures ∙ search needs)
-    (c₂ .before .before .before .if1 .left) (c₂ .before .before .if2 .left) _ (c₂ .put .ensures) (c₂ .put .kept .0) _ (search needs)
+    let same-time = toZ-ofZ (sfits-of (c₆ .before .before .struct-told .given .0 .1)) in
+    let early = compared (c₆ .earlier .ensures) same-time (toZ-ofZ (sfits-of (c₆ .before .earlier-arg .given))) in
+    line-listed (c₁₃ .before .before .before .before .loop .inv) here _ (c₁₀ .line2 .given .1) _ early (c₂ .before .before .before .if1 .left)
+    (c₂ .before .before .if2 .left) _ (c₂ .put .ensures) (c₂ .put .kept .0) _ same-time
 
 same-length-5 : tie.Need-same-length-5 Inv-loop μ-loop
 same-length-5 c = c .before .loop .inv .long

@@ -29,34 +29,25 @@ add-end c =
     let f = c .before in
     let l = f .before .before in
     let p = stamp-held (l .loop .inv) (l .before .before .before .before .before .pre) (f .before .loop-test .taken) (f .stamp-of .ensures) refl in
-    omega arith
+    omega (arith, p .ends, l .before .before .before .before .before .good .0 .1)
 
 sub-put-run : tie.Need-sub-put-run Inv-loop μ-loop
 sub-put-run c =
     let f = c .before .before in
     let l = f .before .before in
-    let p = stamp-held (l .loop .inv) (l .before .before .before .before .before .pre) (f .before .loop-test .taken) (f .stamp-of .ensures) refl in
-    omega arith
+    stamp-held (l .loop .inv) (l .before .before .before .before .before .pre) (f .before .loop-test .taken) (f .stamp-of .ensures) refl .begins
 
 part-put-run-start : tie.Need-part-put-run-start Inv-loop μ-loop
-part-put-run-start c =
-    let f = c .before .before in
-    let l = f .before .before in
-    let p = stamp-held (l .loop .inv) (l .before .before .before .before .before .pre) (f .before .loop-test .taken) (f .stamp-of .ensures) refl in
-    omega arith
+part-put-run-start c = sub-put-run c
 
 part-put-run-end : tie.Need-part-put-run-end Inv-loop μ-loop
-part-put-run-end c =
-    let f = c .before .before in
-    let l = f .before .before in
-    let p = stamp-held (l .loop .inv) (l .before .before .before .before .before .pre) (f .before .loop-test .taken) (f .stamp-of .ensures) refl in
-    omega arith
+part-put-run-end c = c .before .before .stamp-of .ensures .place .inside
 
 mul-put-run : tie.Need-mul-put-run Inv-loop μ-loop
 mul-put-run c = search needs
 
 shared-slice-copy-out-put-run : tie.Need-shared-slice-copy-out-put-run Inv-loop μ-loop
-shared-slice-copy-out-put-run c = search needs
+shared-slice-copy-out-put-run c = c .before .before .before .before .loop-test .taken
 
 put-run-requires : tie.Need-put-run-requires Inv-loop μ-loop
 put-run-requires c κs =
@@ -65,13 +56,15 @@ put-run-requires c κs =
     run-fits (l .loop .inv) (l .before .before .before .before .before .pre) (f .before .loop-test .taken) (f .stamp-of .ensures) (toZ-ofZ (sfits-of (c .put-run-arg3 .given)))
 
 add-next-moved : tie.Need-add-next-moved Inv-loop μ-loop
-add-next-moved c = search needs
+add-next-moved c =
+    let t = c .before .before .before .before .before .before .before .before in
+    omega (arith, t .loop-test .taken, t .before .before .before .before .before .before .good .1 .1 .0 .1)
 
 next-moved-requires-2 : tie.Need-next-moved-requires-2 Inv-loop μ-loop
-next-moved-requires-2 c κs = search needs
+next-moved-requires-2 c κs = omega (arith, c .before .before .before .before .before .before .before .before .loop-test .taken)
 
 loop-less : tie.Need-loop-less Inv-loop μ-loop
-loop-less c = search needs
+loop-less c = omega (arith, c .before .before .before .before .before .before .before .before .before .loop-test .taken, c .next-moved2 .ensures .low)
 
 loop-again : tie.Need-loop-again Inv-loop μ-loop
 loop-again c =
@@ -82,10 +75,10 @@ loop-again c =
     (r .put-run .ensures) (c .next-moved2 .ensures)
 
 sub-put : tie.Need-sub-put Inv-loop μ-loop
-sub-put c = search needs
+sub-put c = c .before .before .loop .inv .going .inside
 
 part-put-start : tie.Need-part-put-start Inv-loop μ-loop
-part-put-start c = search needs
+part-put-start c = sub-put c
 
 part-put-end : tie.Need-part-put-end Inv-loop μ-loop
 part-put-end c = search needs

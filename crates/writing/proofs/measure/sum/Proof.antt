@@ -1,11 +1,10 @@
 -- The stamps so far, and what is left.
 use Prim.Native.Nat.{_-_}
-use mathlib.Core.Path.{sym, _∙_}
 use native.Mathlib.Omega.{arith}
 use borrow.Author.Needs.{needs, sfits-of}
-use borrow.Author.Tests.{not-true, not-false}
 use lib.ListN.{length}
 use mir.Facts.{toZ-ofZ}
+use Rattle.writing.proofs.Going.{Sound}
 use Rattle.writing.proofs.Sums.{Summing, summing-start, summed, not-placed, stamp-sound, summing-next}
 use Rattle.writing.proofs.measure.sum.Statement.{statement}
 use Rattle.writing.proofs.measure.sum.Tie as tie
@@ -35,10 +34,10 @@ shown-length-requires : tie.Need-shown-length-requires Inv-loop μ-loop
 shown-length-requires c κs = search needs
 
 sub-in-place : tie.Need-sub-in-place Inv-loop μ-loop
-sub-in-place c = search needs
+sub-in-place c = c .before .before .before .before .loop .inv .going .inside
 
 sub-in-place-2 : tie.Need-sub-in-place-2 Inv-loop μ-loop
-sub-in-place-2 c = search needs
+sub-in-place-2 c = c .before .before .before .stamp-of .ensures .place .inside
 
 in-place-requires : tie.Need-in-place-requires Inv-loop μ-loop
 in-place-requires c κs = search needs
@@ -49,66 +48,47 @@ returns c =
     let n = i .before .before in
     let l = n .before .before .before .before in
     not-placed (l .loop .inv) (n .before .before .before .loop-test .taken) (n .before .before .stamp-of .ensures) (toZ-ofZ (sfits-of (n .before .shown-length-arg .given)))
-    (n .shown-length .ensures) (sym (i .in-place .ensures) ∙ not-true _ (c .if1 .taken))
+    (n .shown-length .ensures) (i .in-place .ensures) (c .if1 .taken)
+
+-- where the test held, the stamp is in its place
+placed : (c : tie.Else1 Inv-loop μ-loop)
+    → Sound (c .before .before .before .before .before .before .before .before .before .before .before .args .s .now) (c .before .before .before .before .before .before .before .loop .from)
+    (c .before .before .before .before .before .stamp-of .result) (c .before .before .before .shown-length .result)
+placed c =
+    let n = c .before .before .before in
+    let l = n .before .before .before .before in
+    stamp-sound (l .loop .inv) (n .before .before .before .loop-test .taken) (n .before .before .stamp-of .ensures) (toZ-ofZ (sfits-of (n .before .shown-length-arg .given)))
+    (n .shown-length .ensures) (c .before .in-place .ensures) (c .if1 .left)
 
 sub-gained : tie.Need-sub-gained Inv-loop μ-loop
-sub-gained c =
-    let i = c .before in
-    let n = i .before .before in
-    let l = n .before .before .before .before in
-    let p = stamp-sound (l .loop .inv) (n .before .before .before .loop-test .taken) (n .before .before .stamp-of .ensures) (toZ-ofZ (sfits-of (n .before .shown-length-arg .given)))
-    (n .shown-length .ensures) (sym (i .in-place .ensures) ∙ not-false _ (c .if1 .left))
-    in
-    omega arith
+sub-gained c = omega (arith, placed c .low)
 
 add-gained : tie.Need-add-gained Inv-loop μ-loop
 add-gained c =
-    let i = c .before in
-    let n = i .before .before in
-    let l = n .before .before .before .before in
-    let p = stamp-sound (l .loop .inv) (n .before .before .before .loop-test .taken) (n .before .before .stamp-of .ensures) (toZ-ofZ (sfits-of (n .before .shown-length-arg .given)))
-    (n .shown-length .ensures) (sym (i .in-place .ensures) ∙ not-false _ (c .if1 .left))
-    in
-    omega (arith, l .before .before .before .before .good .1 .1 .0 .1, l .loop .inv .more, l .loop .inv .going .stops .high)
+    let l = c .before .before .before .before .before .before .before in
+    omega (arith, placed c .high, l .loop .inv .more, l .loop .inv .going .stops .high, l .before .before .before .before .good .1 .1 .0 .1)
 
 sub-lost : tie.Need-sub-lost Inv-loop μ-loop
-sub-lost c =
-    let i = c .before .before in
-    let n = i .before .before in
-    let l = n .before .before .before .before in
-    let p = stamp-sound (l .loop .inv) (n .before .before .before .loop-test .taken) (n .before .before .stamp-of .ensures) (toZ-ofZ (sfits-of (n .before .shown-length-arg .given)))
-    (n .shown-length .ensures) (sym (i .in-place .ensures) ∙ not-false _ (c .before .if1 .left))
-    in
-    omega arith
+sub-lost c = placed (c .before) .was
 
 add-lost : tie.Need-add-lost Inv-loop μ-loop
 add-lost c =
-    let i = c .before .before in
-    let n = i .before .before in
-    let l = n .before .before .before .before in
-    let p = stamp-sound (l .loop .inv) (n .before .before .before .loop-test .taken) (n .before .before .stamp-of .ensures) (toZ-ofZ (sfits-of (n .before .shown-length-arg .given)))
-    (n .shown-length .ensures) (sym (i .in-place .ensures) ∙ not-false _ (c .before .if1 .left))
-    in
-    omega arith
+    let l = c .before .before .before .before .before .before .before .before in
+    omega (arith, placed (c .before), l .loop .inv .less, l .before .before .before .before .good .0 .1)
 
 add-from : tie.Need-add-from Inv-loop μ-loop
-add-from c =
-    let i = c .before .before .before in
-    let n = i .before .before in
-    let l = n .before .before .before .before in
-    let p = stamp-sound (l .loop .inv) (n .before .before .before .loop-test .taken) (n .before .before .stamp-of .ensures) (toZ-ofZ (sfits-of (n .before .shown-length-arg .given)))
-    (n .shown-length .ensures) (sym (i .in-place .ensures) ∙ not-false _ (c .before .before .if1 .left))
-    in
-    omega arith
+add-from c = omega (arith, placed (c .before .before) .ends, c .before .before .before .before .before .before .before .before .before .before .before .before .before .good .0 .1)
 
 add-next-moved : tie.Need-add-next-moved Inv-loop μ-loop
-add-next-moved c = search needs
+add-next-moved c =
+    let t = c .before .before .before .before .before .before .before .before in
+    omega (arith, t .loop-test .taken, t .before .before .before .before .before .good .1 .1 .0 .1)
 
 next-moved-requires-2 : tie.Need-next-moved-requires-2 Inv-loop μ-loop
-next-moved-requires-2 c κs = search needs
+next-moved-requires-2 c κs = omega (arith, c .before .before .before .before .before .before .before .before .loop-test .taken)
 
 loop-less : tie.Need-loop-less Inv-loop μ-loop
-loop-less c = search needs
+loop-less c = omega (arith, c .before .before .before .before .before .before .before .before .before .loop-test .taken, c .next-moved2 .ensures .low)
 
 loop-again : tie.Need-loop-again Inv-loop μ-loop
 loop-again c =
@@ -116,7 +96,7 @@ loop-again c =
     let n = i .before .before in
     let l = n .before .before .before .before in
     summing-next (l .loop .inv) (n .before .before .before .loop-test .taken) (n .before .before .stamp-of .ensures) (toZ-ofZ (sfits-of (n .before .shown-length-arg .given)))
-    (n .shown-length .ensures) (sym (i .in-place .ensures) ∙ not-false _ (c .before .before .before .if1 .left)) (c .next-moved2 .ensures)
+    (n .shown-length .ensures) (i .in-place .ensures) (c .before .before .before .if1 .left) (c .next-moved2 .ensures)
 
 returns-2 : tie.Need-returns-2 Inv-loop μ-loop
 returns-2 c = summed (c .before .loop .inv) (c .loop-test .left)
