@@ -3,8 +3,9 @@
  * ./library makes it for x86-64, as lib/libcantuvesh.a and lib/libcantuvesh.so beside
  * include/cantuvesh.h, and prints the line that compiles a program with it. It needs no set-up, keeps
  * nothing between calls, allocates nothing and may be called from several threads at once, each with
- * times and room of its own. A call takes some 160,000 bytes of the calling thread's stack (153,592 as
- * reference/stack measures it: at 2,048 records, the written trace wanted).
+ * times and room of its own. A call takes some 160,000 bytes of the calling thread's stack (155,128 as
+ * reference/stack measured it: at 2,048 records, the written trace wanted, and with the registers that the
+ * loader keeps where it binds a function at its first use).
  */
 #ifndef CANTUVESH_H
 #define CANTUVESH_H
