@@ -3,12 +3,8 @@
 
 mod common;
 
-use common::{LENIENT, STRICT, TRACE_A, judged, number, trace, written};
+use common::{LENIENT, RECEIVES, SENDS, STRICT, TRACE_A, judged, number, trace, written};
 use reference::generator::flat_table;
-
-/// The starts of sends and of receives.
-const SENDS: [&str; 2] = ["-3 -21", "-3 -27"];
-const RECEIVES: [&str; 5] = ["-4 -51", "-4 -52", "-4 -58", "-4 -60", "-4 -61"];
 
 /// Number and line of messages from processor 0 to 1 of one type, sent with the first lengths and received
 /// with the others, the sends first in the file; the same under both choices.

@@ -3,15 +3,12 @@
 
 mod common;
 
-use common::{LENIENT, STRICT, TRACE_A, TRACE_B, judged, number, trace, written};
+use common::{LENIENT, RECEIVES, SENDS, STRICT, TRACE_A, TRACE_B, judged, number, trace, written};
 use reference::MAX_RECORDS;
 use reference::generator::flat_table;
 
 /// The events of sendbegin0, sendstatus0, sendend0, recvbegin0, recvstatus0 and recvend0.
 const NEW: [i64; 10] = [-27, -28, -29, -30, -31, -57, -58, -59, -60, -61];
-/// The starts of sends and of receives, those of document 01 among them.
-const SENDS: [&str; 2] = ["-3 -21", "-3 -27"];
-const RECEIVES: [&str; 5] = ["-4 -51", "-4 -52", "-4 -58", "-4 -60", "-4 -61"];
 
 /// Every record of the new events that is neither send nor receive, by its start.
 fn neither() -> Vec<String> {

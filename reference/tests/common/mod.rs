@@ -23,6 +23,12 @@ pub const TRACE_B: &str = "\
 pub const STRICT: Asked = Asked::with_levels_off(1);
 pub const LENIENT: Asked = Asked::with_levels_off(2);
 
+/// The starts of sends and of receives.
+#[allow(dead_code)]
+pub const SENDS: [&str; 2] = ["-3 -21", "-3 -27"];
+#[allow(dead_code)]
+pub const RECEIVES: [&str; 5] = ["-4 -51", "-4 -52", "-4 -58", "-4 -60", "-4 -61"];
+
 /// Lines as a trace; T is the time 0.000000.
 #[allow(dead_code)]
 pub fn trace(lines: &[&str]) -> String {
