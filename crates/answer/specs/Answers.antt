@@ -4,15 +4,17 @@ use lib.Dec.{ltb}
 use Rattle.paper.specs.Numbers.{numberOf}
 use Rattle.paper.specs.Answer.{verdictOf}
 use Rattle.paper.specs.declared.Fault.{Fault}
+use Rattle.paper.specs.declared.Site.{Site}
 use Rattle.paper.specs.declared.Answer.{Answer}
 use Rattle.answer.specs.declared.Counts.{Counts}
 
 -- "Every refusal returns its number and line, verdict 0 and all counts 0"
-unfoldable pub refusal : Fault → ℕ → Answer
-refusal fault line =
+unfoldable pub refusal : Fault → Site → Answer
+refusal fault site =
     record {
       number = numberOf fault;
-      line = line;
+      line = site .line;
+      column = site .column;
       verdict = 0;
       listed = 0;
       passed = 0;
@@ -31,6 +33,7 @@ acceptance c written =
     record {
       number = 0;
       line = 0;
+      column = 0;
       verdict = verdictBy (c .matched) (c .rounds);
       listed = c .listed;
       passed = c .passed;

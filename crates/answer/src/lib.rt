@@ -1,9 +1,11 @@
-// The answer that a call comes to: a refusal by its number and line, or acceptance with its verdict and its counts.
+// The answer that a call comes to: a refusal by its number, line and column, or acceptance with its verdict and its counts.
 ghost use mathlib.Core.Path.{_≡_};
+ghost use Rattle.paper.specs.Columns as columns;
 ghost use Rattle.paper.specs.Numbers.{numberOf};
 ghost use Rattle.answer.specs.Answers.{refusal, acceptance, verdictBy};
 use paper::Answer;
 use paper::Fault;
+use paper::Site;
 
 // What is counted in an accepted trace.
 pub struct Counts {
@@ -39,12 +41,13 @@ fn number(fault: Fault) -> u64
 }
 
 // "Every refusal returns its number and line, verdict 0 and all counts 0"
-pub fn refused(fault: Fault, line: usize) -> Answer
-    ensures { λ r. ⌜ r ≡ refusal fault line ⌝ }
+pub fn refused(fault: Fault, site: Site) -> Answer
+    ensures { λ r. ⌜ r ≡ refusal fault site ⌝ }
 {
     Answer {
         number: number(fault),
-        line: line as u64,
+        line: site.line as u64,
+        column: site.column as u64,
         verdict: 0,
         listed: 0,
         passed: 0,
@@ -53,6 +56,19 @@ pub fn refused(fault: Fault, line: usize) -> Answer
         rounds: 0,
         written: 0,
     }
+}
+
+// No line, for what is refused as a whole.
+pub fn nowhere() -> Site
+    ensures { λ r. ⌜ r ≡ columns.nowhere ⌝ }
+{
+    Site { line: 0, column: 0 }
+}
+
+pub fn refused_nowhere(fault: Fault) -> Answer
+    ensures { λ r. ⌜ r ≡ refusal fault columns.nowhere ⌝ }
+{
+    refused(fault, nowhere())
 }
 
 // "Verdict 3 exactly if no message matched; 2 exactly if some time moved; else 1." A time moved exactly if there was a round.
@@ -74,6 +90,7 @@ pub fn accepted(counts: Counts, written: usize) -> Answer
     Answer {
         number: 0,
         line: 0,
+        column: 0,
         verdict: verdict(counts.matched, counts.rounds),
         listed: counts.listed as u64,
         passed: counts.passed as u64,

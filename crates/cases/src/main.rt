@@ -1,7 +1,8 @@
 // Runs the program on each line of the file `list` and prints what it reports. A line has the arguments with one space between two,
 // so that a doubled space and one at the line's end make an empty argument; an empty line has none. A line that begins with '!' has
 // the named arguments of the program for rollouts, and one with '=' those of the program that makes tables. A line that begins with '>'
-// names a file, which is printed, and one with '?' two files, which are compared. A new case needs no proof.
+// names a file, which is printed, and one with '?' two files, which are compared. A line that begins with ':' has a choice and a line of
+// a trace, which is a whole trace with its LF, and of one with '/' every beginning is, without an LF. A new case needs no proof.
 ghost use mathlib.Core.Path.{_≡_};
 ghost use Prim.Native.Nat.{_≤_};
 ghost use lib.ListN.{length};
@@ -75,6 +76,8 @@ fn case(line: &[u8]) {
         b'?' => compare(&line[1..]),
         b'=' => make(&line[1..]),
         b'!' => rollout::perform(&line[1..], b' '),
+        b':' => judge_line(&line[1..]),
+        b'/' => judge_beginnings(&line[1..]),
         _ => run(line),
     }
 }
@@ -101,6 +104,26 @@ fn make(line: &[u8]) {
     }
     let a = behind(line, 0);
     tables::perform(spaces(line) + 2, word(line, 0), word(line, a));
+}
+
+// A choice and a line of a trace.
+fn judge_line(line: &[u8]) {
+    let text = behind(line, 0);
+    judge_text(word(line, 0), &line[text..], b"\n");
+}
+
+fn judge_beginnings(line: &[u8]) {
+    for n in 0..line.len() {
+        judge_text(b"1", &line[0..n + 1], b"");
+    }
+}
+
+fn judge_text(choice: &[u8], text: &[u8], end: &[u8]) {
+    let file = os::open_overwrite(b"text");
+    io::write_all(file, text);
+    io::write_all(file, end);
+    libc::close(file);
+    shell::perform(4, choice, b"text", b"five.table", b"");
 }
 
 // The word that begins at a place, and where the next one begins: at the line's end where there is none.

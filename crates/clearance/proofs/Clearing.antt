@@ -9,12 +9,14 @@ use lib.ListN.{length, drop, getD, drop-of-length-le}
 use lib.Seq.{drop-cons}
 use lib.Dec.{leb}
 use borrow.Author.Tests.{le-leb, lt-leb, leb-true, eq-eqb, ne-eqb}
+use Rattle.paper.specs.Columns.{nowhere}
 use Rattle.paper.specs.Answer.{Given, Reached, most, longest, heard, choiceOf, rightLengths, lowLatencies, stopped, onRead, onChoice, reach}
 use Rattle.paper.specs.Reading.{readOf}
 use Rattle.paper.specs.declared.Asked.{Asked}
 use Rattle.paper.specs.declared.Choice.{Choice}
 use Rattle.paper.specs.declared.Choice.the-variants.{Strict, Lenient}
 use Rattle.paper.specs.declared.Fault.{Fault}
+use Rattle.paper.specs.declared.Site.{Site}
 use Rattle.paper.specs.declared.Fault.the-variants as Fault
 use Rattle.clearance.specs.declared.Heard.{Heard}
 use Rattle.clearance.specs.declared.Heard.the-variants.{Of, Nothing}
@@ -103,7 +105,7 @@ module _ (g : Given) {h : Heard} (is : heardOf h ≡ heard (g .asked)) where
 module _ (g : Given) where
   -- of the code's clearance, how far the paper's call comes
   abbrev Comes : Cleared → Reached → Type 0
-  Comes (Refused fault) x = x ≡ stopped fault 0
+  Comes (Refused fault) x = x ≡ stopped fault nowhere
   Comes (Under choice) x =
       (x ≡ onRead g choice (readOf choice (most g) (g .trace)) (readOf choice (most g) (g .trace) .stop)) × (length (g .trace) ≤ longest)
 
@@ -115,8 +117,8 @@ module _ (g : Given) where
       go : (a b c : Bool) → leb (length (g .trace)) longest ≡ c
           → Comes (cond a (cond b (cond c (Under choice) (Refused Fault.LongTrace)) (Refused Fault.HighLatency)) (Refused Fault.WrongLength))
           (cond a
-          (cond b (cond c (onRead g choice (readOf choice (most g) (g .trace)) (readOf choice (most g) (g .trace) .stop)) (stopped Fault.LongTrace 0)) (stopped Fault.HighLatency 0))
-          (stopped Fault.WrongLength 0))
+          (cond b (cond c (onRead g choice (readOf choice (most g) (g .trace)) (readOf choice (most g) (g .trace) .stop)) (stopped Fault.LongTrace nowhere)) (stopped Fault.HighLatency nowhere))
+          (stopped Fault.WrongLength nowhere))
       go false b c e = refl
       go true false c e = refl
       go true true false e = refl
@@ -126,8 +128,9 @@ module _ (g : Given) where
   unfolding clearance reach
   cleared-comes x e = rw e (comes (heard (g .asked)))
 
-  pub cleared-refused : {x : Cleared} (fault : Fault) → x ≡ clearance g → x ≡ Refused fault → reach g ≡ stopped fault 0
-  cleared-refused {x} fault e r = rw r at (cleared-comes x e)
+  pub cleared-refused : {x : Cleared} (fault : Fault) → x ≡ clearance g → x ≡ Refused fault → {site : Site} → site ≡ nowhere
+      → reach g ≡ stopped fault site
+  cleared-refused {x} fault e r s = rw s (rw r at (cleared-comes x e))
 
   pub cleared-reads : {x : Cleared} (choice : Choice) → x ≡ clearance g → x ≡ Under choice
       → (reach g ≡ onRead g choice (readOf choice (most g) (g .trace)) (readOf choice (most g) (g .trace) .stop)) × (length (g .trace) ≤ longest)

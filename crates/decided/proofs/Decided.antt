@@ -3,6 +3,7 @@ use mathlib.Core.Path.{_≡_}
 use mathlib.Core.Bool.{Bool, true, false, not}
 use lib.Dec.{eqb}
 use borrow.Author.Tests.{not-true, not-false}
+use Rattle.paper.specs.Columns.{nowhere}
 use Rattle.paper.specs.declared.Answer.{Answer}
 use Rattle.paper.specs.declared.Fault.the-variants as Fault
 use Rattle.answer.specs.Answers.{refusal}
@@ -23,7 +24,7 @@ module _ (read got fits : Bool) where
     no-table e = rw (not-false read first, not-true got e)
 
     module _ (second : not got ≡ false) where
-      pub other-length : not fits ≡ true → {answer : Answer} → answer ≡ refusal Fault.WrongLength 0 → Ended (Answered answer) ≡ readyOf read got fits
+      pub other-length : not fits ≡ true → {answer : Answer} → answer ≡ refusal Fault.WrongLength nowhere → Ended (Answered answer) ≡ readyOf read got fits
       unfolding readyOf
       other-length e a = rw (not-false read first, not-false got second, not-true fits e, a)
 

@@ -1,6 +1,7 @@
 -- What is decided of two files without their bytes: whether they are judged, whether the written trace is stored, and what is said then.
 use mathlib.Core.Bool.{Bool, true, false, _&&_}
 use lib.Dec.{eqb}
+use Rattle.paper.specs.Columns.{nowhere}
 use Rattle.paper.specs.declared.Answer.{Answer}
 use Rattle.paper.specs.declared.Fault.the-variants as Fault
 use Rattle.answer.specs.Answers.{refusal}
@@ -13,7 +14,7 @@ use Rattle.decided.specs.declared.Readiness.the-variants.{Both, Ended}
 unfoldable pub readyOf : (read got fits : Bool) → Readiness
 readyOf false got fits = Ended Said.CannotRead
 readyOf true false fits = Ended Said.CannotRead
-readyOf true true false = Ended (Said.Answered (refusal Fault.WrongLength 0))
+readyOf true true false = Ended (Said.Answered (refusal Fault.WrongLength nowhere))
 readyOf true true true = Both
 
 -- only an accepted trace that is wanted goes to its file

@@ -23,7 +23,7 @@ pub fn ready(read: bool, got: bool, fits: bool) -> Readiness
         return Readiness::Ended(Said::CannotRead);
     }
     if !fits {
-        return Readiness::Ended(Said::Answered(answer::refused(Fault::WrongLength, 0)));
+        return Readiness::Ended(Said::Answered(answer::refused_nowhere(Fault::WrongLength)));
     }
     Readiness::Both
 }

@@ -8,6 +8,7 @@ use lib.ListN.{length, drop, length-append, length-drop}
 use lib.Seq.{take-at, drop-at, getD-append-add, getD-drop}
 use lib.IntN.{pos}
 use Rattle.paper.specs.Clock.{timeAt}
+use Rattle.paper.specs.Columns.{inLine}
 use Rattle.paper.specs.Reading.{linesOf, start}
 use Rattle.paper.specs.Matching.{matchedCount, unreceivedCount, waitsOf}
 use Rattle.paper.specs.Answer.{Inputs, Outcome, given, most, judge, accepted, written as bytes}
@@ -98,7 +99,7 @@ module _ (i : Inputs) (a : Accepted i) where
   unfolding accepted waitsOf
   told =
       record {
-        no-line = ap (λ (o : Outcome). o .answer .line) (judge-accepted i a);
+        no-line = ap (λ (o : Outcome). inLine (o .answer .line) (o .answer .column)) (judge-accepted i a);
         records = records-along (a .choice) (most (given i)) along-trace;
         lists = listed-is i a;
         passes = passed-is ∙ passed-lines;

@@ -6,7 +6,7 @@ use Rattle.demands.specs.Demand1.{Demand1}
 use Rattle.demands.specs.Demand2.{Demand2}
 use Rattle.demands.specs.Demand3.{Demand3}
 use Rattle.demands.proofs.Exactly.{answered}
-use Rattle.demands.proofs.Refusals.{accepted-exactly, refused-exactly, refusal-keeps}
+use Rattle.demands.proofs.Refusals.{accepted-exactly, refused-exactly, column-exactly, refusal-keeps}
 use Rattle.demands.proofs.Accepted.{accepted-answer}
 use Rattle.demands.proofs.Sends.{sent}
 use Rattle.demands.proofs.Again.{stamps-only, steady}
@@ -21,6 +21,7 @@ demand-1 =
       answered = answered;
       accepted = accepted-exactly;
       refused = refused-exactly;
+      columns = column-exactly;
       kept = refusal-keeps;
       one-outcome = λ i a b p q. p ∙ sym q;
     }

@@ -40,7 +40,7 @@ module _ (choice : Choice) (most : ℕ) (s more : List ℕ) (whole : readOf choi
     where
       go : (x : Stop) → readOf choice most s .stop ≡ x → x ≡ End
       go End e = refl
-      go (At fault n) e = sym (ap (λ (r : Reading). r .stop) (rw e at (read-joined choice most s more ended))) ∙ whole
+      go (At fault site) e = sym (ap (λ (r : Reading). r .stop) (rw e at (read-joined choice most s more ended))) ∙ whole
 
   first-entries : (later : List Entry) × (readOf choice most (s ++ more) .entries ≡ readOf choice most s .entries ++ later)
   unfolding resumed

@@ -13,6 +13,7 @@ use lib.Signed.{ltZ, ltZ-yes, ltZ-no, clashℤ}
 use lib.Dec.{eqb, leb}
 use borrow.Author.Tests.{eq-eqb, ne-eqb, leb-true, leb-false, le-leb, lt-leb, le-ltb}
 use Rattle.paper.specs.Line.{lineOf}
+use Rattle.paper.specs.Columns.{pastEnd, columnIn, inLine}
 use Rattle.paper.specs.Reading.{Lines, done, unended, ended, State, start, Reading, checked, withPassed, withListed, withEntry, onLine, readFrom}
 use Rattle.paper.specs.Matching.{entryAt, lastOf, lastOn}
 use Rattle.paper.specs.declared.Choice.{Choice}
@@ -22,6 +23,8 @@ use Rattle.paper.specs.declared.Fault.the-variants as Fault
 use Rattle.paper.specs.declared.Line.{Line}
 use Rattle.paper.specs.declared.Line.the-variants.{Refused, Passed, Listed}
 use Rattle.paper.specs.declared.Record.{Record}
+use Rattle.paper.specs.declared.Spot.{Spot}
+use Rattle.paper.specs.declared.Spot.the-variants as Spot
 use Rattle.paper.specs.declared.Stop.{Stop}
 use Rattle.paper.specs.declared.Stop.the-variants.{End, At}
 use Rattle.reading.specs.Joined.{behind}
@@ -189,17 +192,18 @@ module _ (choice : Choice) (limit : ℕ) (lines : Lines) where
 
   -- ---- what is bad there
 
-  pub data StopsOn (es : List Entry) : Fault → Lines → Type 0 where
-    no-end : {l : List ℕ} → StopsOn es Fault.Form (unended l)
-    in-line : {fault : Fault} {l : List ℕ} {x : Lines} → RowIn choice l fault → StopsOn es fault (ended l x)
-    backwards : {l : List ℕ} {x : Lines} → Backwards es choice l → StopsOn es Fault.Backwards (ended l x)
-    too-many : {l : List ℕ} {x : Lines} → TooMany limit es choice l → StopsOn es Fault.TooMany (ended l x)
+  -- with the column
+  pub data StopsOn (es : List Entry) : Fault → Lines → ℕ → Type 0 where
+    no-end : {l : List ℕ} → StopsOn es Fault.Form (unended l) (pastEnd l)
+    in-line : {fault : Fault} {spot : Spot} {l : List ℕ} {x : Lines} → RowIn choice l fault spot → StopsOn es fault (ended l x) (columnIn l spot)
+    backwards : {l : List ℕ} {x : Lines} → Backwards es choice l → StopsOn es Fault.Backwards (ended l x) 0
+    too-many : {l : List ℕ} {x : Lines} → TooMany limit es choice l → StopsOn es Fault.TooMany (ended l x) 0
 
-  stop-here : (n : ℕ) (es : List Entry) (st : State) → Held es st → {fault : Fault} {rest : Lines} → StopsOn es fault rest
-      → readFrom choice limit rest n st .stop ≡ At fault n
-  unfolding readFrom checked onLine
+  stop-here : (n : ℕ) (es : List Entry) (st : State) → Held es st → {fault : Fault} {rest : Lines} {column : ℕ} → StopsOn es fault rest column
+      → readFrom choice limit rest n st .stop ≡ At fault (inLine n column)
+  unfolding readFrom checked onLine columnIn
   stop-here n es st h no-end = refl
-  stop-here n es st h (in-line {fault = fault} {l = l} row) = rw (row-refused choice l fault row)
+  stop-here n es st h (in-line {l = l} row) = rw (row-refused choice l row)
   stop-here n es st h (backwards {l = l} (r, p, b)) =
       rw (p, is-below es st h r (time-of-line choice l r p) (tidy-record choice l r p .processor) b)
   stop-here n es st h (too-many {l = l} (r, p, b, full)) =
@@ -209,9 +213,9 @@ module _ (choice : Choice) (limit : ℕ) (lines : Lines) where
         le-leb limit (st .listed) (omega (arith, h .count)),
       )
 
-  pub stops-there : {n : ℕ} {es : List Entry} {rest : Lines} → Good choice limit lines n es rest → (fault : Fault) → StopsOn es fault rest
-      → readFrom choice limit lines 1 start .stop ≡ At fault n
-  stops-there {n} {es} g fault s =
+  pub stops-there : {n : ℕ} {es : List Entry} {rest : Lines} → Good choice limit lines n es rest → {fault : Fault} {column : ℕ} → StopsOn es fault rest column
+      → readFrom choice limit lines 1 start .stop ≡ At fault (inLine n column)
+  stops-there {n} {es} g s =
       let c = comes g in ap (λ (r : Reading). r .stop) (c .reads) ∙ stop-here n es (c .state) (c .held) s
 
   pub ends-there : {n : ℕ} {es : List Entry} → Good choice limit lines n es done
@@ -225,18 +229,18 @@ module _ (choice : Choice) (limit : ℕ) (lines : Lines) where
 
   abbrev pub Stopped : Stop → Type 0
   Stopped End = (n : ℕ) × (es : List Entry) × Good choice limit lines n es done
-  Stopped (At fault n) = (es : List Entry) × (rest : Lines) × Good choice limit lines n es rest × StopsOn es fault rest
+  Stopped (At fault s) = (es : List Entry) × (rest : Lines) × Good choice limit lines (s .line) es rest × StopsOn es fault rest (s .column)
 
   walk : (rest : Lines) (n : ℕ) (es : List Entry) (st : State) → Good choice limit lines n es rest → Held es st
       → Stopped (readFrom choice limit rest n st .stop)
-  unfolding readFrom onLine checked
+  unfolding readFrom onLine checked columnIn
   walk done n es st g h = (n, es, g)
   walk (unended l) n es st g h = (es, unended l, g, no-end)
   walk (ended l x) n es st g h = go (λ m fs st₁. walk x m fs st₁) (lineOf choice l) refl
     where
       go : ((m : ℕ) (fs : List Entry) (st₁ : State) → Good choice limit lines m fs x → Held fs st₁ → Stopped (readFrom choice limit x m st₁ .stop))
-          → (y : Line) → lineOf choice l ≡ y → Stopped (onLine n st (checked limit st y) (λ st₁. readFrom choice limit x (n + 1) st₁) .stop)
-      go f (Refused fault) p = (es, ended l x, g, in-line (refused-row choice l fault p))
+          → (y : Line) → lineOf choice l ≡ y → Stopped (onLine n l st (checked limit st y) (λ st₁. readFrom choice limit x (n + 1) st₁) .stop)
+      go f (Refused fault spot) p = (es, ended l x, g, in-line (refused-row choice l fault spot p))
       go f Passed p = f (n + 1) es (withPassed st) (passed-over g p) (held-passed h)
       go f (Listed r) p = on-listed _ refl _ refl
         where
@@ -247,7 +251,7 @@ module _ (choice : Choice) (limit : ℕ) (lines : Lines) where
           place = tidy-record choice l r p .processor
 
           on-listed : (t : Bool) → ltZ (r .time) (getD (st .last) (r .processor) (pos 0)) ≡ t → (b : Bool) → leb limit (st .listed) ≡ b
-              → Stopped (onLine n st (cond t (Refused Fault.Backwards) (cond b (Refused Fault.TooMany) (Listed r))) (λ st₁. readFrom choice limit x (n + 1) st₁) .stop)
+              → Stopped (onLine n l st (cond t (Refused Fault.Backwards Spot.Whole) (cond b (Refused Fault.TooMany Spot.Whole) (Listed r))) (λ st₁. readFrom choice limit x (n + 1) st₁) .stop)
           on-listed true a b c = (es, ended l x, g, backwards (r, p, below es st h r range place a))
           on-listed false a true c =
               (es, ended l x, g, too-many (r, p, not-below es st h r range place a, omega (arith, h .count, few-good g, leb-true limit (st .listed) c)))

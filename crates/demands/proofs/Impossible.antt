@@ -10,12 +10,14 @@ use lib.IntN.{ℤ}
 use borrow.Author.Tests.{ltb-true, ltb-false}
 use Rattle.paper.specs.Numbers.{numberOf}
 use Rattle.paper.specs.Clock.{Sound, Settled, impossible, settled, settle}
+use Rattle.paper.specs.Columns.{nowhere}
 use Rattle.paper.specs.Answer.{Inputs, Outcome, refused, written}
 use Rattle.paper.specs.declared.Choice.{Choice}
 use Rattle.paper.specs.declared.Fault.the-variants as Fault
+use Rattle.paper.specs.declared.Site.{Site}
 use Rattle.demands.specs.Steps.{entries, Matched, waits}
 use Rattle.demands.specs.Table.{When}
-use Rattle.demands.specs.Parts.{number, line}
+use Rattle.demands.specs.Parts.{number, site}
 use Rattle.demands.specs.Demand3.{Allowed}
 use Rattle.demands.proofs.Refusals.{accepted-exactly, refused-exactly}
 use Rattle.demands.proofs.Reached.{foundBy, reach-times, reach-found}
@@ -24,17 +26,17 @@ use Rattle.demands.proofs.Allowed.{allowed-sound, sound-allowed}
 use Rattle.demands.proofs.Times.{one-choice}
 
 module _ (i : Inputs) where
-  pub no-times : (n : ℕ) → ((number i ≡ 15) × (line i ≡ n)) ↔ When i Fault.NoTimes n
+  pub no-times : (s : Site) → ((number i ≡ 15) × (site i ≡ s)) ↔ When i Fault.NoTimes s
   unfolding numberOf
-  no-times n = refused-exactly i Fault.NoTimes n
+  no-times s = refused-exactly i Fault.NoTimes s
 
   pub impossible-matched : number i ≡ 15 → (choice : Choice) × Matched i choice × ((x : ℕ → ℤ) → Sound (waits i choice) x → ⊥)
   unfolding When
-  impossible-matched e = let (choice, m, none-sound, l) = no-times (line i) .0 (e, refl) in (choice, m, none-sound)
+  impossible-matched e = let (choice, m, none-sound, e) = no-times (site i) .0 (e, refl) in (choice, m, none-sound)
 
   pub matched-impossible : (choice : Choice) → Matched i choice → ((x : ℕ → ℤ) → Sound (waits i choice) x → ⊥) → number i ≡ 15
   unfolding When
-  matched-impossible choice m none-sound = no-times 0 .1 (choice, m, none-sound, refl) .0
+  matched-impossible choice m none-sound = no-times nowhere .1 (choice, m, none-sound, refl) .0
 
   -- what is left where the earlier checks pass
   pub matched-number : (choice : Choice) → Matched i choice → (number i ≡ 0) ⊎ ((number i ≡ 15) ⊎ (number i ≡ 16))
@@ -48,7 +50,7 @@ module _ (i : Inputs) where
           inl (accepted-exactly i .1 (record { choice = choice; rounds = rounds; times = times; matched = m; settles = e; room = ltb-false _ _ b }))
 
       go : (s : Settled) → settle (waits i choice) ≡ s → (number i ≡ 0) ⊎ ((number i ≡ 15) ⊎ (number i ≡ 16))
-      go impossible e = inr (inl (ap (λ (o : Outcome). o .answer .number) (judge-stopped i Fault.NoTimes 0 (reach-times i choice m e))))
+      go impossible e = inr (inl (ap (λ (o : Outcome). o .answer .number) (judge-stopped i Fault.NoTimes nowhere (reach-times i choice m e))))
       go (settled rounds times) e = on-room rounds times e _ refl
 
   pub impossible-exactly : (choice : Choice) → Matched i choice

@@ -12,14 +12,16 @@ use lib.IntN.{ℤ, negsuc}
 use lib.Dec.{eqb}
 use borrow.Author.Tests.{eqb-true, eq-eqb}
 use Rattle.paper.specs.Tests.{eqZ}
+use Rattle.paper.specs.Columns.{wholeLine}
 use Rattle.paper.specs.Levels.{isThree, counts, isMark, lastMark, expected, agrees, offAt, onOff, levelsFrom, levelsOf}
 use Rattle.paper.specs.Matching.{entryAt, isOn, lastOn}
 use Rattle.paper.specs.declared.Asked.{Asked}
 use Rattle.paper.specs.declared.Data.{Data}
-use Rattle.paper.specs.declared.Data.the-variants.{Malformed, Three, Others}
+use Rattle.paper.specs.declared.Data.the-variants.{Three, Others}
 use Rattle.paper.specs.declared.Entry.{Entry}
 use Rattle.paper.specs.declared.Fault.{Fault}
 use Rattle.paper.specs.declared.Fault.the-variants as Fault
+use Rattle.paper.specs.declared.Site.{Site}
 use Rattle.paper.specs.declared.Stop.{Stop}
 use Rattle.paper.specs.declared.Stop.the-variants.{End, At}
 use Rattle.forms.proofs.Tests.{both, never}
@@ -28,6 +30,7 @@ use Rattle.matching.proofs.Keys.{eqZ-true, eqZ-same}
 use Rattle.matching.proofs.Last.{LastOf, last-of, last-back}
 use Rattle.demands.specs.Levels.{Last, On, Mark, AsExpected, Off, Decides, AtLevels}
 use Rattle.demands.proofs.Tests.{Tells, not-told, untold}
+use Rattle.demands.proofs.Stops.{site-is}
 
 -- ---- the last that is such
 
@@ -52,7 +55,6 @@ module _ (es : List Entry) (test : Entry → Bool) (such : Entry → Type 0) (te
 
 three-data : (v : Data) → isThree v ≡ true → (picl : ℤ) × (user : ℤ) × (trace : ℤ) × (v ≡ Three picl user trace)
 unfolding isThree
-three-data Malformed e = never (cc)
 three-data (Three picl user trace) e = (picl, user, trace, refl)
 three-data Others e = never (cc)
 
@@ -161,7 +163,7 @@ module _ (a : Asked) (es : List Entry) where
 
   abbrev Told : ℕ → ℕ → Stop → Type 0
   Told p n End = Quiet p (p + n)
-  Told p n (At fault line) = (fault ≡ Fault.OtherLevels) × (q : ℕ) × Off a es q line × Quiet p q
+  Told p n (At fault s) = (fault ≡ Fault.OtherLevels) × (s .column ≡ 0) × (q : ℕ) × Off a es q (s .line) × Quiet p q
 
   told : (p n : ℕ) → Told p n (levelsFrom a es p n)
   unfolding levelsFrom
@@ -169,42 +171,45 @@ module _ (a : Asked) (es : List Entry) where
   told p (suc n) = go (offAt a es p) refl (levelsFrom a es (suc p) n) (told (suc p) n)
     where
       go : (o : Option ℕ) → offAt a es p ≡ o → (s : Stop) → Told (suc p) n s → Told p (suc n) (onOff o s)
-      go (some line) e s f = (refl, p, off-row a es p line e, λ r l m. absurd (omega arith))
+      go (some line) e s f = (refl, refl, p, off-row a es p line e, λ r l m. absurd (omega arith))
       go none e End f = λ r l m. quiet-first p (suc p + n) e f r l (omega arith)
-      go none e (At fault line) (same, q, off, quiet) = (same, q, off, quiet-first p q e quiet)
+      go none e (At fault s) (same, whole, q, off, quiet) = (same, whole, q, off, quiet-first p q e quiet)
+
+  -- 17 at a line, without a column
+  abbrev Seventeen : Fault → Site → Type 0
+  Seventeen fault s = (fault ≡ Fault.OtherLevels) × Decides a es (s .line) × (s .column ≡ 0)
 
   -- every listed record's processor is one of the 64 that are looked at
   module _ (low : (k : ℕ) → k < length es → processor es k < 64) where
     off-low : (p n : ℕ) → Off a es p n → p < 64
     off-low p n off = omega (arith, low (off .place) (off .last .within), off .last .is)
 
-    at-row : (fault : Fault) (line : ℕ) → levelsOf a es ≡ At fault line → (fault ≡ Fault.OtherLevels) × Decides a es line
+    at-row : (fault : Fault) (s : Site) → levelsOf a es ≡ At fault s → Seventeen fault s
     unfolding levelsOf
-    at-row fault line e = go (eqb (a .levels) 1) refl e
+    at-row fault s e = go (eqb (a .levels) 1) refl e
       where
-        go : (t : Bool) → eqb (a .levels) 1 ≡ t → cond t (levelsFrom a es 0 64) End ≡ At fault line
-            → (fault ≡ Fault.OtherLevels) × Decides a es line
+        go : (t : Bool) → eqb (a .levels) 1 ≡ t → cond t (levelsFrom a es 0 64) End ≡ At fault s → Seventeen fault s
         go true t e =
-            let (same, p, off, quiet) = rw e at (told 0 64) in
-            (same, record { on = eqb-true _ _ t; processor = p; off = off; smallest = λ q l. quiet q (omega arith) l })
+            let (same, whole, p, off, quiet) = rw e at (told 0 64) in
+            (same, record { on = eqb-true _ _ t; processor = p; off = off; smallest = λ q l. quiet q (omega arith) l }, whole)
         go false t e = never (cc)
 
-    row-at : (line : ℕ) → Decides a es line → levelsOf a es ≡ At Fault.OtherLevels line
+    row-at : (line : ℕ) → Decides a es line → levelsOf a es ≡ At Fault.OtherLevels (wholeLine line)
     unfolding levelsOf
     row-at line d = rw (eq-eqb (a .levels) 1 (d .on)) (go (levelsFrom a es 0 64) (told 0 64))
       where
-        go : (s : Stop) → Told 0 64 s → s ≡ At Fault.OtherLevels line
+        go : (s : Stop) → Told 0 64 s → s ≡ At Fault.OtherLevels (wholeLine line)
         go End quiet = absurd (quiet (d .processor) (omega arith) (off-low (d .processor) line (d .off)) line (d .off))
-        go (At fault n) (same, q, off, quiet) =
+        go (At fault s) (same, whole, q, off, quiet) =
             let above : ¬ (d .processor < q) = λ l. quiet (d .processor) (omega arith) l line (d .off) in
-            let below : ¬ (q < d .processor) = λ l. d .smallest q l n off in
+            let below : ¬ (q < d .processor) = λ l. d .smallest q l (s .line) off in
             let z : q ≡ d .processor = omega arith in
-            let its-line : n ≡ line = one-line a es (d .processor) n line (rw z at off) (d .off) in
-            rw (same, its-line)
+            let its-line : s .line ≡ line = one-line a es (d .processor) (s .line) line (rw z at off) (d .off) in
+            rw (same, site-is s line 0 its-line whole)
 
     -- 17 at a line is where the row says so, and no other refusal comes of the levels
-    pub levels-row : (fault : Fault) (line : ℕ) → (levelsOf a es ≡ At fault line) ↔ ((fault ≡ Fault.OtherLevels) × Decides a es line)
-    levels-row fault line = (at-row fault line, λ (same, d). rw same (row-at line d))
+    pub levels-row : (fault : Fault) (s : Site) → (levelsOf a es ≡ At fault s) ↔ Seventeen fault s
+    levels-row fault s = (at-row fault s, λ (same, d, whole). rw (same, site-is s (s .line) 0 refl whole) (row-at (s .line) d))
 
     end-row : levelsOf a es ≡ End → AtLevels a es
     unfolding levelsOf
@@ -217,7 +222,7 @@ module _ (a : Asked) (es : List Entry) where
       where
         go : (s : Stop) → levelsOf a es ≡ s → s ≡ End
         go End e = refl
-        go (At fault line) e = let d = at-row fault line e .1 in absurd (h (d .on) (d .processor) line (d .off))
+        go (At fault s) e = let d = at-row fault s e .1 in absurd (h (d .on) (d .processor) (s .line) (d .off))
 
     -- and where no processor calls for 17, nothing does
     pub levels-none : (levelsOf a es ≡ End) ↔ AtLevels a es

@@ -4,6 +4,9 @@ pub mod Numbers
 pub mod Stops
 pub mod Reached
 pub mod Judged
+pub mod Columns
+pub mod DataRows
+pub mod MessageRows
 pub mod LineRows
 pub mod InOrder
 pub mod GoodLines
@@ -13,6 +16,7 @@ pub mod Said
 pub mod Closed
 pub mod Rows
 pub mod Exactly
+pub mod ColumnRows
 pub mod Refusals
 pub mod Recorded
 pub mod Allowed

@@ -5,6 +5,7 @@ use mathlib.Core.Path.{_≡_, ap, _∙_}
 use mathlib.Core.Option.{none}
 use mathlib.Core.List.{List}
 use lib.IntN.{ℤ}
+use Rattle.paper.specs.Columns.{nowhere}
 use Rattle.paper.specs.Levels.{levelsOf}
 use Rattle.paper.specs.Matching.{matchedOf}
 use Rattle.paper.specs.Clock.{impossible, settled, settle}
@@ -12,6 +13,7 @@ use Rattle.paper.specs.Answer.{Inputs, given, heard, Found, stopped, found, rea
 use Rattle.paper.specs.declared.Choice.{Choice}
 use Rattle.paper.specs.declared.Fault.{Fault}
 use Rattle.paper.specs.declared.Fault.the-variants as Fault
+use Rattle.paper.specs.declared.Site.{Site}
 use Rattle.demands.specs.Steps.{Chosen, RightLengths, LowLatencies, ShortTrace, Begun, reading, entries, Read, Levelled, Matched, waits}
 use Rattle.demands.proofs.Stops.{BadLine, BadLevels, BadReceive}
 use Rattle.demands.proofs.Tests.{not-told, lengths-tell, lows-tell, short-tells}
@@ -21,21 +23,21 @@ abbrev pub foundBy : Inputs → Choice → ℕ → List ℤ → Found
 foundBy i choice rounds times = record { choice = choice; reading = reading i choice; rounds = rounds; times = times }
 
 module _ (i : Inputs) where
-  pub reach-choice : heard (i .asked) ≡ none → reach (given i) ≡ stopped Fault.BadChoice 0
+  pub reach-choice : heard (i .asked) ≡ none → reach (given i) ≡ stopped Fault.BadChoice nowhere
   unfolding reach onChoice
   reach-choice e = rw e
 
   module _ (choice : Choice) (chosen : Chosen i choice) where
-    pub reach-length : ¬ RightLengths i → reach (given i) ≡ stopped Fault.WrongLength 0
+    pub reach-length : ¬ RightLengths i → reach (given i) ≡ stopped Fault.WrongLength nowhere
     unfolding reach onChoice
     reach-length l = rw (chosen, not-told (lengths-tell i) l)
 
     module _ (lengths : RightLengths i) where
-      pub reach-latency : ¬ LowLatencies i → reach (given i) ≡ stopped Fault.HighLatency 0
+      pub reach-latency : ¬ LowLatencies i → reach (given i) ≡ stopped Fault.HighLatency nowhere
       unfolding reach onChoice
       reach-latency h = rw (chosen, lengths-tell i .told lengths, not-told (lows-tell i) h)
 
-      pub reach-long : LowLatencies i → ¬ ShortTrace i → reach (given i) ≡ stopped Fault.LongTrace 0
+      pub reach-long : LowLatencies i → ¬ ShortTrace i → reach (given i) ≡ stopped Fault.LongTrace nowhere
       unfolding reach onChoice
       reach-long low h = rw (chosen, lengths-tell i .told lengths, lows-tell i .told low, not-told (short-tells i) h)
 
@@ -56,7 +58,7 @@ module _ (i : Inputs) where
     unfolding onMatched
     reach-matched m = reach-levelled (m .levelled) ∙ ap (onMatched (given i) choice (reading i choice)) (m .matches)
 
-    pub reach-times : Matched i choice → settle (waits i choice) ≡ impossible → reach (given i) ≡ stopped Fault.NoTimes 0
+    pub reach-times : Matched i choice → settle (waits i choice) ≡ impossible → reach (given i) ≡ stopped Fault.NoTimes nowhere
     unfolding onSettled
     reach-times m e = reach-matched m ∙ ap (onSettled choice (reading i choice)) e
 
@@ -65,14 +67,14 @@ module _ (i : Inputs) where
     unfolding onSettled
     reach-found m rounds times e = reach-matched m ∙ ap (onSettled choice (reading i choice)) e
 
-  pub reach-line : (fault : Fault) (n : ℕ) → BadLine i fault n → reach (given i) ≡ stopped fault n
+  pub reach-line : (fault : Fault) (s : Site) → BadLine i fault s → reach (given i) ≡ stopped fault s
   unfolding onRead
-  reach-line fault n b = reach-begun (b .choice) (b .begun) ∙ ap (onRead (given i) (b .choice) (reading i (b .choice))) (b .stops)
+  reach-line fault s b = reach-begun (b .choice) (b .begun) ∙ ap (onRead (given i) (b .choice) (reading i (b .choice))) (b .stops)
 
-  pub reach-levels : (fault : Fault) (n : ℕ) → BadLevels i fault n → reach (given i) ≡ stopped fault n
+  pub reach-levels : (fault : Fault) (s : Site) → BadLevels i fault s → reach (given i) ≡ stopped fault s
   unfolding onLevels
-  reach-levels fault n b = reach-read (b .choice) (b .read) ∙ ap (onLevels (given i) (b .choice) (reading i (b .choice))) (b .calls)
+  reach-levels fault s b = reach-read (b .choice) (b .read) ∙ ap (onLevels (given i) (b .choice) (reading i (b .choice))) (b .calls)
 
-  pub reach-receive : (fault : Fault) (n : ℕ) → BadReceive i fault n → reach (given i) ≡ stopped fault n
+  pub reach-receive : (fault : Fault) (s : Site) → BadReceive i fault s → reach (given i) ≡ stopped fault s
   unfolding onMatched
-  reach-receive fault n b = reach-levelled (b .choice) (b .levelled) ∙ ap (onMatched (given i) (b .choice) (reading i (b .choice))) (b .calls)
+  reach-receive fault s b = reach-levelled (b .choice) (b .levelled) ∙ ap (onMatched (given i) (b .choice) (reading i (b .choice))) (b .calls)

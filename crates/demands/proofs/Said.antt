@@ -5,6 +5,7 @@ use mathlib.Core.Logic.{inl, inr}
 use mathlib.Core.Option.{some}
 use mathlib.Core.List.{List}
 use lib.ListN.{length}
+use Rattle.paper.specs.Columns.{columnOf, columnIn, inLine, wholeLine}
 use Rattle.paper.specs.Reading.{Lines, done, unended, ended, linesOf, readOf}
 use Rattle.paper.specs.Levels.{levelsOf}
 use Rattle.paper.specs.Matching.{entryAt, matchedOf}
@@ -13,15 +14,18 @@ use Rattle.paper.specs.declared.Choice.{Choice}
 use Rattle.paper.specs.declared.Entry.{Entry}
 use Rattle.paper.specs.declared.Fault.{Fault}
 use Rattle.paper.specs.declared.Fault.the-variants as Fault
+use Rattle.paper.specs.declared.Site.{Site}
+use Rattle.paper.specs.declared.Spot.{Spot}
+use Rattle.paper.specs.declared.Spot.the-variants as Spot
 use Rattle.paper.specs.declared.Stop.the-variants.{At}
 use Rattle.matching.specs.Belongs.{processor}
 use Rattle.matching.proofs.Calls.{callAt, FirstCall, first-call-at, at-first-call}
 use Rattle.demands.specs.Steps.{Begun, reading, entries, Read, Levelled}
 use Rattle.demands.specs.Before.{Good, ComesTo, AtLine}
 use Rattle.demands.specs.Levels.{OtherLevels, AtLevels}
-use Rattle.demands.specs.Rows.{NoSend, LongReceive, FirstReceive}
-use Rattle.demands.specs.Table.{When}
-use Rattle.demands.proofs.Stops.{BadLine, BadLevels, BadReceive}
+use Rattle.demands.specs.Rows.{BadForm, BadStamp, UnlistedStrict, NotHandled, BadPlace, NoMessage, Backwards, TooMany, NoSend, LongReceive, FirstReceive}
+use Rattle.demands.specs.Table.{InField, NoEnd, When}
+use Rattle.demands.proofs.Stops.{site-is, BadLine, BadLevels, BadReceive}
 use Rattle.demands.proofs.LineRows.{RowIn, form-row, stamp-row, strict-row, handled-row, place-row, message-row}
 use Rattle.demands.proofs.GoodLines.{StopsOn, no-end, in-line, backwards, too-many, Stopped, stops-there, ends-there, stopped-there}
 use Rattle.demands.proofs.InOrder.{originals-place}
@@ -30,8 +34,8 @@ use Rattle.demands.proofs.ReceiveRows.{RowAt, send-row, length-row, cal
 
 module _ (i : Inputs) where
   -- what is bad where a call has come to
-  abbrev BadAt : (n : ℕ) (rest : Lines) → ComesTo i n rest → Fault → Type 0
-  BadAt n rest c fault = StopsOn (c .choice) (most (given i)) (linesOf (i .trace)) (c .before) fault rest
+  abbrev BadAt : (n : ℕ) (rest : Lines) → ComesTo i n rest → Fault → ℕ → Type 0
+  BadAt n rest c fault column = StopsOn (c .choice) (most (given i)) (linesOf (i .trace)) (c .before) fault rest column
 
   stopped : (choice : Choice) → Stopped choice (most (given i)) (linesOf (i .trace)) (reading i choice .stop)
   unfolding readOf
@@ -39,17 +43,32 @@ module _ (i : Inputs) where
 
   -- ---- from the table
 
-  pub bad-stops : (n : ℕ) (rest : Lines) (c : ComesTo i n rest) (fault : Fault) → BadAt n rest c fault → BadLine i fault n
+  bad-stops : (s : Site) (rest : Lines) (c : ComesTo i (s .line) rest) (fault : Fault) (column : ℕ) → BadAt (s .line) rest c fault column
+      → s .column ≡ column → BadLine i fault s
   unfolding readOf
-  bad-stops n rest c fault s =
+  bad-stops s rest c fault column bad e =
       record {
         choice = c .choice;
         begun = c .begun;
-        stops = stops-there (c .choice) (most (given i)) (linesOf (i .trace)) (c .good) fault s;
+        stops = stops-there (c .choice) (most (given i)) (linesOf (i .trace)) (c .good) bad ∙ ap (At fault) (sym (site-is s (s .line) column refl e));
       }
 
-  pub line-stops : (n : ℕ) (at : AtLine i n) (fault : Fault) → RowIn (at .comes .choice) (at .line) fault → BadLine i fault n
-  line-stops n at fault row = bad-stops n (ended (at .line) (at .later)) (at .comes) fault (in-line row)
+  pub end-stops : (s : Site) → NoEnd i s → BadLine i Fault.Form s
+  end-stops s e = bad-stops s (unended (e .line)) (e .comes) Fault.Form _ no-end (e .column)
+
+  pub field-stops : (s : Site) (fault : Fault) (bad : Choice → List ℕ → ℕ → Type 0)
+      → ((choice : Choice) (l : List ℕ) (k : ℕ) → bad choice l k → RowIn choice l fault (Spot.Field k)) → InField i s bad → BadLine i fault s
+  unfolding columnIn
+  field-stops s fault bad means f =
+      bad-stops s _ (f .at .comes) fault _ (in-line (means (f .at .comes .choice) (f .at .line) (f .field) (f .is))) (f .column)
+
+  pub backwards-stops : (s : Site) (at : AtLine i (s .line)) → Backwards (at .comes .before) (at .comes .choice) (at .line) → s .column ≡ 0
+      → BadLine i Fault.Backwards s
+  backwards-stops s at row e = bad-stops s _ (at .comes) Fault.Backwards 0 (backwards row) e
+
+  pub many-stops : (s : Site) (at : AtLine i (s .line)) → TooMany (most (given i)) (at .comes .before) (at .comes .choice) (at .line)
+      → s .column ≡ 0 → BadLine i Fault.TooMany s
+  many-stops s at row e = bad-stops s _ (at .comes) Fault.TooMany 0 (too-many row) e
 
   -- all lines good, and their records
   all-read : (n : ℕ) (c : ComesTo i n done) → Read i (c .choice)
@@ -67,42 +86,47 @@ module _ (i : Inputs) where
   all-levels : (n : ℕ) (c : ComesTo i n done) → levelsOf (i .asked) (entries i (c .choice)) ≡ levelsOf (i .asked) (c .before)
   all-levels n c = ap (levelsOf (i .asked)) (all-entries n c)
 
-  pub levels-stop : (n : ℕ) → OtherLevels i n → BadLevels i Fault.OtherLevels n
-  levels-stop n o =
-      let row = levels-row (i .asked) (o .comes .before) (all-places (o .end) (o .comes)) Fault.OtherLevels n in
+  pub levels-stop : (s : Site) → OtherLevels i (s .line) → s .column ≡ 0 → BadLevels i Fault.OtherLevels s
+  levels-stop s o e =
+      let row = levels-row (i .asked) (o .comes .before) (all-places (o .end) (o .comes)) Fault.OtherLevels s in
       record {
         choice = o .comes .choice;
         read = all-read (o .end) (o .comes);
-        calls = all-levels (o .end) (o .comes)
-            ∙ row .1 (refl, o .decides);
+        calls = all-levels (o .end) (o .comes) ∙ row .1 (refl, o .decides, e);
       }
 
   all-levelled : (n : ℕ) (c : ComesTo i n done) → AtLevels (i .asked) (c .before) → Levelled i (c .choice)
   all-levelled n c h =
       record { read = all-read n c; levels = all-levels n c ∙ levels-none (i .asked) (c .before) (all-places n c) .1 h }
 
-  pub call-stops : (n : ℕ) (fault : Fault) (calls : List Entry → ℕ → Type 0) → ((es : List Entry) (k : ℕ) → calls es k → callAt es k ≡ some fault)
-      → FirstReceive i n calls → BadReceive i fault n
-  call-stops n fault calls means f =
+  pub call-stops : (s : Site) (fault : Fault) (calls : List Entry → ℕ → Type 0) → ((es : List Entry) (k : ℕ) → calls es k → callAt es k ≡ some fault)
+      → FirstReceive i (s .line) calls → s .column ≡ 0 → BadReceive i fault s
+  call-stops s fault calls means f e =
       let es = f .comes .before in
       let call : FirstCall es (f .place) fault =
       record { within = f .within; calls = means es (f .place) (f .is); none-before = λ k l. nothing-called es k (f .first k l) } in
       record {
         choice = f .comes .choice;
         levelled = all-levelled (f .end) (f .comes) (f .levels);
-        calls = ap matchedOf (all-entries (f .end) (f .comes)) ∙ first-call-at es (f .place) fault call ∙ ap (At fault) (f .its-line);
+        calls = ap matchedOf (all-entries (f .end) (f .comes)) ∙ first-call-at es (f .place) fault call
+            ∙ ap (At fault) (sym (site-is s (entryAt es (f .place) .line) 0 (sym (f .its-line)) e));
       }
 
   -- ---- to the table
 
-  when-row : (n : ℕ) (at : AtLine i n) (fault : Fault) → RowIn (at .comes .choice) (at .line) fault → When i fault n
-  unfolding When
-  when-row n at fault (form-row r) = inr (at, r)
-  when-row n at fault (stamp-row r) = (at, r)
-  when-row n at fault (strict-row r) = (at, r)
-  when-row n at fault (handled-row r) = (at, r)
-  when-row n at fault (place-row r) = (at, r)
-  when-row n at fault (message-row r) = (at, r)
+  in-field : (n : ℕ) (at : AtLine i n) (k : ℕ) (bad : Choice → List ℕ → ℕ → Type 0) → bad (at .comes .choice) (at .line) k
+      → InField i (inLine n (columnOf k (at .line))) bad
+  in-field n at k bad r = record { at = at; field = k; is = r; column = refl }
+
+  when-row : (n : ℕ) (at : AtLine i n) {fault : Fault} {spot : Spot} → RowIn (at .comes .choice) (at .line) fault spot
+      → When i fault (inLine n (columnIn (at .line) spot))
+  unfolding When columnIn
+  when-row n at (form-row {k = k} r) = inr (in-field n at k (λ choice. BadForm) r)
+  when-row n at (stamp-row {k = k} r) = in-field n at k (λ choice. BadStamp) r
+  when-row n at (strict-row {k = k} r) = in-field n at k UnlistedStrict r
+  when-row n at (handled-row {k = k} r) = in-field n at k (λ choice. NotHandled) r
+  when-row n at (place-row {k = k} r) = in-field n at k (λ choice. BadPlace) r
+  when-row n at (message-row {k = k} r) = in-field n at k (λ choice. NoMessage) r
 
   module _ (choice : Choice) (begun : Begun i choice) (n : ℕ) (es : List Entry) where
     comes-to : (rest : Lines) → Good choice (most (given i)) (linesOf (i .trace)) n es rest → ComesTo i n rest
@@ -111,29 +135,29 @@ module _ (i : Inputs) where
     at-line : (l : List ℕ) (x : Lines) → Good choice (most (given i)) (linesOf (i .trace)) n es (ended l x) → AtLine i n
     at-line l x good = record { line = l; later = x; comes = comes-to (ended l x) good }
 
-    when-bad : {fault : Fault} {rest : Lines} → StopsOn choice (most (given i)) (linesOf (i .trace)) es fault rest
-        → Good choice (most (given i)) (linesOf (i .trace)) n es rest → When i fault n
+    when-bad : {fault : Fault} {rest : Lines} {column : ℕ} → StopsOn choice (most (given i)) (linesOf (i .trace)) es fault rest column
+        → Good choice (most (given i)) (linesOf (i .trace)) n es rest → When i fault (inLine n column)
     unfolding When comes-to at-line
-    when-bad (no-end {l = l}) good = inl (l, comes-to (unended l) good)
-    when-bad (in-line {fault = fault} {l = l} {x = x} row) good = when-row n (at-line l x good) fault row
-    when-bad (backwards {l = l} {x = x} row) good = (at-line l x good, row)
-    when-bad (too-many {l = l} {x = x} row) good = (at-line l x good, row)
+    when-bad (no-end {l = l}) good = inl (record { line = l; comes = comes-to (unended l) good; column = refl })
+    when-bad (in-line {l = l} {x = x} row) good = when-row n (at-line l x good) row
+    when-bad (backwards {l = l} {x = x} row) good = (at-line l x good, row, refl)
+    when-bad (too-many {l = l} {x = x} row) good = (at-line l x good, row, refl)
 
-  pub when-line : (fault : Fault) (n : ℕ) → BadLine i fault n → When i fault n
-  when-line fault n b =
+  pub when-line : (fault : Fault) (s : Site) → BadLine i fault s → When i fault s
+  when-line fault s b =
       let (es, rest, good, bad) = rw (b .stops) at (stopped (b .choice)) in
-      when-bad (b .choice) (b .begun) n es bad good
+      when-bad (b .choice) (b .begun) (s .line) es bad good
 
   all-good : (choice : Choice) → Read i choice → (end : ℕ) × (es : List Entry) × Good choice (most (given i)) (linesOf (i .trace)) end es done
   all-good choice r = rw (r .whole) at (stopped choice)
 
-  pub when-levels : (fault : Fault) (n : ℕ) → BadLevels i fault n → When i fault n
+  pub when-levels : (fault : Fault) (s : Site) → BadLevels i fault s → When i fault s
   unfolding When
-  when-levels fault n b =
+  when-levels fault s b =
       let (end, es, good) = all-good (b .choice) (b .read) in
       let c : ComesTo i end done = record { choice = b .choice; begun = b .read .begun; before = es; good = good } in
-      let (same, d) = levels-row (i .asked) es (all-places end c) fault n .0 (sym (all-levels end c) ∙ b .calls) in
-      rw same (record { end = end; comes = c; decides = d })
+      let (same, d, whole) = levels-row (i .asked) es (all-places end c) fault s .0 (sym (all-levels end c) ∙ b .calls) in
+      rw same (record { end = end; comes = c; decides = d }, whole)
 
   module _ (n end : ℕ) (c : ComesTo i end done) (levels : AtLevels (i .asked) (c .before)) (k : ℕ) (line : entryAt (c .before) k .line ≡ n) where
     first-call : {fault : Fault} → FirstCall (c .before) k fault → (calls : List Entry → ℕ → Type 0) → calls (c .before) k → FirstReceive i n calls
@@ -149,15 +173,15 @@ module _ (i : Inputs) where
           first = λ j l. called-not (c .before) j (f .none-before j l);
         }
 
-    when-called : {fault : Fault} → RowAt (c .before) k fault → FirstCall (c .before) k fault → When i fault n
+    when-called : {fault : Fault} → RowAt (c .before) k fault → FirstCall (c .before) k fault → When i fault (wholeLine n)
     unfolding When
-    when-called (send-row r) f = first-call f NoSend r
-    when-called (length-row r) f = first-call f LongReceive r
+    when-called (send-row r) f = (first-call f NoSend r, refl)
+    when-called (length-row r) f = (first-call f LongReceive r, refl)
 
-  pub when-receive : (fault : Fault) (n : ℕ) → BadReceive i fault n → When i fault n
-  when-receive fault n b =
+  pub when-receive : (fault : Fault) (s : Site) → BadReceive i fault s → When i fault s
+  when-receive fault s b =
       let (end, es, good) = all-good (b .choice) (b .levelled .read) in
       let c : ComesTo i end done = record { choice = b .choice; begun = b .levelled .read .begun; before = es; good = good } in
       let levels = levels-none (i .asked) es (all-places end c) .0 (sym (all-levels end c) ∙ b .levelled .levels) in
-      let (k, f, line) = at-first-call es fault n (sym (ap matchedOf (all-entries end c)) ∙ b .calls) in
-      when-called n end c levels k line (call-row es k fault (f .calls)) f
+      let (k, f, site) = at-first-call es fault s (sym (ap matchedOf (all-entries end c)) ∙ b .calls) in
+      rw (← site) (when-called _ end c levels k refl (call-row es k fault (f .calls)) f)

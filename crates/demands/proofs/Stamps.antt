@@ -50,7 +50,7 @@ unfolding lineOf begun fieldsAbove
 goes-on choice l r e = go (headOf l) refl e
   where
     go : (x : Begun) → headOf l ≡ x → begun choice x ≡ Listed r → (goesOn l ≡ true) × (goesOn (after l) ≡ true) × (goesOn (after (after l)) ≡ true)
-    go (bad fault) p e = never (cc)
+    go (bad fault k) p e = never (cc)
     go (six h fields) p e =
         let (one, behind) = both _ _ (has-six l h fields p .0) in
         let (two, behind) = both _ _ behind in

@@ -1,25 +1,31 @@
 -- Where the reading stops, where the levels do, and where the matching: rows 5 to 14 and 17 in the words of the definitions.
 use Prim.Native.Nat.{ℕ}
 use mathlib.Core.Path.{_≡_}
+use Rattle.paper.specs.Columns.{inLine}
 use Rattle.paper.specs.Levels.{levelsOf}
 use Rattle.paper.specs.Matching.{matchedOf}
 use Rattle.paper.specs.Answer.{Inputs}
 use Rattle.paper.specs.declared.Choice.{Choice}
 use Rattle.paper.specs.declared.Fault.{Fault}
+use Rattle.paper.specs.declared.Site.{Site}
 use Rattle.paper.specs.declared.Stop.the-variants.{At}
 use Rattle.demands.specs.Steps.{Begun, reading, Read, entries, Levelled}
 
-pub record BadLine (i : Inputs) (fault : Fault) (line : ℕ) : Type 0 where
+-- a site is its line and its column
+pub site-is : (s : Site) (n column : ℕ) → s .line ≡ n → s .column ≡ column → s ≡ inLine n column
+site-is s n column a b = rw (← a, ← b)
+
+pub record BadLine (i : Inputs) (fault : Fault) (site : Site) : Type 0 where
   pub choice : Choice
   pub begun : Begun i choice
-  pub stops : reading i choice .stop ≡ At fault line
+  pub stops : reading i choice .stop ≡ At fault site
 
-pub record BadLevels (i : Inputs) (fault : Fault) (line : ℕ) : Type 0 where
+pub record BadLevels (i : Inputs) (fault : Fault) (site : Site) : Type 0 where
   pub choice : Choice
   pub read : Read i choice
-  pub calls : levelsOf (i .asked) (entries i choice) ≡ At fault line
+  pub calls : levelsOf (i .asked) (entries i choice) ≡ At fault site
 
-pub record BadReceive (i : Inputs) (fault : Fault) (line : ℕ) : Type 0 where
+pub record BadReceive (i : Inputs) (fault : Fault) (site : Site) : Type 0 where
   pub choice : Choice
   pub levelled : Levelled i choice
-  pub calls : matchedOf (entries i choice) ≡ At fault line
+  pub calls : matchedOf (entries i choice) ≡ At fault site

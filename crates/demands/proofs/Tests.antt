@@ -1,4 +1,4 @@
--- The tests of 1 to 4, and the plain facts that they tell.
+-- Tests and the plain facts that they tell: of signed numbers, and those of 1 to 4.
 use Prim.Native.Nat.{ℕ, zero, suc, _≤_, _<_}
 use native.Mathlib.Omega.{arith}
 use mathlib.Core.Path.{_≡_, refl}
@@ -7,12 +7,15 @@ use mathlib.Core.Logic.{inl, inr}
 use mathlib.Core.Option.{Option, none}
 use mathlib.Core.List.{List, [], _∷_}
 use lib.ListN.{length, getD}
+use lib.IntN.{ℤ}
 use lib.Dec.{leb}
 use borrow.Author.Tests.{eqb-true, eq-eqb, ne-eqb, leb-true, leb-false, le-leb, lt-leb}
+use Rattle.paper.specs.Tests.{eqZ}
 use Rattle.paper.specs.Answer.{Given, Inputs, given, most, longest, choiceOf, heard, rightLengths, lowLatencies}
 use Rattle.paper.specs.declared.Asked.{Asked}
 use Rattle.paper.specs.declared.Choice.{Choice}
 use Rattle.forms.proofs.Tests.{both, never}
+use Rattle.matching.proofs.Keys.{eqZ-true, eqZ-same}
 use Rattle.demands.specs.Steps.{Unheard, RightLengths, LowLatencies, ShortTrace}
 
 -- a test tells a fact
@@ -26,6 +29,9 @@ not-told {b = false} t h = refl
 
 pub untold : {b : Bool} {P : Type 0} → Tells b P → b ≡ false → ¬ P
 untold t e p = let yes-it = t .told p in never (cc)
+
+pub same-tells : (a b : ℤ) → Tells (eqZ a b) (a ≡ b)
+same-tells a b = record { holds = eqZ-true a b; told = λ e. rw e (eqZ-same b) }
 
 pub lengths-tell : (i : Inputs) → Tells (rightLengths (given i)) (RightLengths i)
 unfolding rightLengths

@@ -7,12 +7,13 @@ use mathlib.Core.Bool.{false}
 use lib.ListN.{length, drop}
 use lib.Signed.{_<ℤ_}
 use Rattle.paper.specs.Clock.{Repeats, timeAt}
+use Rattle.paper.specs.Columns.{nowhere}
 use Rattle.paper.specs.Reading.{linesOf}
 use Rattle.paper.specs.Matching.{countIf, isSend, matchedCount}
 use Rattle.paper.specs.Answer.{Inputs, judge, written as bytes}
 use Rattle.paper.specs.declared.Choice.{Choice}
 use Rattle.demands.specs.Records.{recordsFrom, passedIn}
-use Rattle.demands.specs.Parts.{line, verdict, listed, passed, matched, unreceived, rounds, written, time, corrected, writtenTrace}
+use Rattle.demands.specs.Parts.{site, verdict, listed, passed, matched, unreceived, rounds, written, time, corrected, writtenTrace}
 use Rattle.demands.specs.Steps.{entries, original, waits}
 
 -- "some time moved"
@@ -20,7 +21,7 @@ abbrev pub Moved : Inputs → Choice → Type 0
 Moved i choice = (k : ℕ) × (k < listed i) × (original (entries i choice) k <ℤ time i k)
 
 pub record AcceptedAnswer (i : Inputs) (choice : Choice) : Type 0 where
-  pub no-line : line i ≡ 0
+  pub no-line : site i ≡ nowhere
   -- "Lines count from 1."
   pub records : entries i choice ≡ recordsFrom choice 1 (linesOf (i .trace))
   pub lists : listed i ≡ length (entries i choice)

@@ -4,13 +4,22 @@ use mathlib.Core.List.{List}
 use lib.ListN.{take}
 use lib.IntN.{ℤ}
 use Rattle.paper.specs.Clock.{timeAt}
+use Rattle.paper.specs.Columns.{inLine}
 use Rattle.paper.specs.Answer.{Inputs, judge}
+use Rattle.paper.specs.declared.Site.{Site}
 
 abbrev pub number : Inputs → ℕ
 number i = judge i .answer .number
 
 abbrev pub line : Inputs → ℕ
 line i = judge i .answer .line
+
+abbrev pub column : Inputs → ℕ
+column i = judge i .answer .column
+
+-- where it is refused
+abbrev pub site : Inputs → Site
+site i = inLine (line i) (column i)
 
 abbrev pub verdict : Inputs → ℕ
 verdict i = judge i .answer .verdict

@@ -10,7 +10,7 @@ use Rattle.paper.specs.declared.Line.the-variants.{Refused, Passed, Listed}
 
 -- the listed ones from line n on, in file order
 unfoldable pub listedFirst : ℕ → Line → List Entry → List Entry
-listedFirst n (Refused fault) more = more
+listedFirst n (Refused fault spot) more = more
 listedFirst n Passed more = more
 listedFirst n (Listed r) more = record { line = n; body = r } ∷ more
 
@@ -21,7 +21,7 @@ recordsFrom choice n (ended l x) = listedFirst n (lineOf choice l) (recordsFrom 
 
 -- how many are passed over
 unfoldable pub passedFirst : Line → ℕ → ℕ
-passedFirst (Refused fault) more = more
+passedFirst (Refused fault spot) more = more
 passedFirst Passed more = suc more
 passedFirst (Listed r) more = more
 

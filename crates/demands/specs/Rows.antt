@@ -1,23 +1,26 @@
 -- Rows 5 to 14 of document 01's table: what is bad in a line, given without its LF, and in a receive. What "Within a line" looks at
--- earlier is good in each row.
-use Prim.Native.Nat.{ℕ, suc, _<_}
+-- earlier is good in each row. Rows 5 to 10 name the field that decides, counted from 0: "After document 01's order the leftmost fault
+-- decides; a field too many is one."
+use Prim.Native.Nat.{ℕ, suc, _+_, _≤_, _<_}
 use mathlib.Core.Path.{_≡_}
 use mathlib.Core.Logic.{_⊎_}
 use mathlib.Core.Bool.{true, false}
 use mathlib.Core.Option.{Option, none, some}
 use mathlib.Core.List.{List, [], _∷_}
 use lib.ListN.{length}
-use lib.IntN.{ℤ}
+use lib.IntN.{ℤ, pos}
+use lib.Signed.{_≤ℤ_, _<ℤ_}
+use Rattle.paper.specs.Tests.{upTo}
 use Rattle.paper.specs.Forms.{wholeOf, timeOf}
 use Rattle.paper.specs.Events.{listedKind, standingOf}
-use Rattle.paper.specs.Line.{field, after, fieldsAbove, countOf, six, headOf, goodEnd, dataOf, placed, partOf, messageOf, lineOf}
+use Rattle.paper.specs.Line.{field, after, rest, fieldsAbove, countOf, six, headOf, goodEnd, dataOf, placed, partOf, lineOf}
 use Rattle.paper.specs.Reading.{done}
 use Rattle.paper.specs.Matching.{entryAt}
 use Rattle.paper.specs.Answer.{Inputs}
 use Rattle.paper.specs.declared.Choice.{Choice}
 use Rattle.paper.specs.declared.Choice.the-variants.{Strict}
 use Rattle.paper.specs.declared.Data.{Data}
-use Rattle.paper.specs.declared.Data.the-variants.{Malformed}
+use Rattle.paper.specs.declared.Data.the-variants.{Three}
 use Rattle.paper.specs.declared.Entry.{Entry}
 use Rattle.paper.specs.declared.Field.{Field}
 use Rattle.paper.specs.declared.Field.the-variants.{Good, Bad}
@@ -28,6 +31,8 @@ use Rattle.paper.specs.declared.Part.the-variants as Part
 use Rattle.paper.specs.declared.Record.{Record}
 use Rattle.paper.specs.declared.Role.the-variants.{Receive}
 use Rattle.paper.specs.declared.Standing.the-variants as Standing
+use Rattle.paper.specs.declared.Values.{Values}
+use Rattle.paper.specs.declared.Values.the-variants as Values
 use Rattle.matching.specs.Belongs.{role, Belongs}
 use Rattle.demands.specs.Before.{Below, ComesTo}
 use Rattle.demands.specs.Levels.{AtLevels}
@@ -52,9 +57,10 @@ pub record Six (l : List ℕ) : Type 0 where
 
 -- ---- a line's standing
 
--- its record type or its event type is unlisted
-abbrev pub Unlisted : Head → Type 0
-Unlisted h = (listedKind (h .kind) ≡ false) ⊎ (standingOf (h .event) ≡ Standing.Unlisted)
+-- its record type is unlisted, or else its event type
+pub data Unlisted (h : Head) : ℕ → Type 0 where
+  by-kind : listedKind (h .kind) ≡ false → Unlisted h 0
+  by-event : listedKind (h .kind) ≡ true → standingOf (h .event) ≡ Standing.Unlisted → Unlisted h 1
 
 -- both are listed
 abbrev pub ListedHead : Head → Type 0
@@ -67,45 +73,84 @@ pub record OnPlace (l : List ℕ) : Type 0 where
   pub processor : ℕ
   pub place : placed (six .head .processor) (six .head .process) ≡ some processor
 
--- its data
-abbrev pub dataIn : {l : List ℕ} → Six l → Data
+-- ---- its data
+
+abbrev pub dataIn : {l : List ℕ} → Six l → Values
 dataIn s = dataOf (s .head .count) (s .fields)
+
+-- of n data, left to right: the one at place k is the first that is bad or missing, or the first too many
+pub data FirstWrong (form : List ℕ → Field) : ℕ → Option (List ℕ) → ℕ → Type 0 where
+  too-many : {l : List ℕ} → FirstWrong form 0 (some l) 0
+  missing : {n : ℕ} → FirstWrong form (suc n) none 0
+  bad-datum : {n : ℕ} {l : List ℕ} → form (field l) ≡ Bad → FirstWrong form (suc n) (some l) 0
+  good-datum : {n : ℕ} {l : List ℕ} {k : ℕ} (v : ℤ) → form (field l) ≡ Good v → FirstWrong form n (rest l) k
+      → FirstWrong form (suc n) (some l) (suc k)
+
+-- "the limit of 16 and the data", of n data and the fields behind the six
+pub data BadData : ℕ → Option (List ℕ) → ℕ → Type 0 where
+  -- "in a listed record at most 16"
+  above-limit : {n : ℕ} {fields : Option (List ℕ)} → 16 < n → BadData n fields 5
+  -- "only if that number is above zero, a descriptor and the data"
+  not-stated : {l : List ℕ} → BadData 0 (some l) 6
+  no-descriptor : {n : ℕ} → 0 < n → n ≤ 16 → BadData n none 6
+  -- "2 (each datum a whole number) or 5 (each datum in the form of a time)"
+  bad-descriptor : {n : ℕ} {l : List ℕ} → 0 < n → n ≤ 16 → ¬ (wholeOf (field l) ≡ Good (pos 2)) → ¬ (wholeOf (field l) ≡ Good (pos 5))
+      → BadData n (some l) 6
+  bad-wholes : {n : ℕ} {l : List ℕ} {k : ℕ} → 0 < n → n ≤ 16 → wholeOf (field l) ≡ Good (pos 2) → FirstWrong wholeOf n (rest l) k
+      → BadData n (some l) (7 + k)
+  bad-times : {n : ℕ} {l : List ℕ} {k : ℕ} → 0 < n → n ≤ 16 → wholeOf (field l) ≡ Good (pos 5) → FirstWrong timeOf n (rest l) k
+      → BadData n (some l) (7 + k)
 
 -- ---- 5 to 10
 
 -- 5, "form of a line or of any field but the timestamp (bad data too)"
-pub data BadForm (l : List ℕ) : Type 0 where
-  -- "fewer than six fields"
-  few-fields : fieldsAbove 5 l ≡ false → BadForm l
+pub data BadForm (l : List ℕ) : ℕ → Type 0 where
+  -- "fewer than six fields": the sixth is missing
+  few-fields : fieldsAbove 5 l ≡ false → BadForm l 5
   -- "the six fields left to right (5 or 6)": field 2 is the timestamp
-  bad-field : (k : ℕ) → fieldsAbove 5 l ≡ true → FirstBad sixForms l k → ¬ (k ≡ 2) → BadForm l
+  bad-field : (k : ℕ) → fieldsAbove 5 l ≡ true → FirstBad sixForms l k → ¬ (k ≡ 2) → BadForm l k
   -- "the end of an unlisted line"
-  bad-end : (s : Six l) → Unlisted (s .head) → goodEnd (s .head .count) (s .fields) ≡ false → BadForm l
+  bad-end : (s : Six l) (k : ℕ) → Unlisted (s .head) k → goodEnd (s .head .count) (s .fields) ≡ false → BadForm l 6
   -- "for a listed one the limit of 16 and the data"
-  bad-data : (p : OnPlace l) → dataIn (p .six) ≡ Malformed → BadForm l
+  bad-data : (p : OnPlace l) (k : ℕ) → BadData (p .six .head .count) (p .six .fields) k → BadForm l k
 
 -- 6, "form of the timestamp"
-abbrev pub BadStamp : List ℕ → Type 0
-BadStamp l = (fieldsAbove 5 l ≡ true) × FirstBad sixForms l 2
+abbrev pub BadStamp : List ℕ → ℕ → Type 0
+BadStamp l k = (fieldsAbove 5 l ≡ true) × FirstBad sixForms l k × (k ≡ 2)
 
 -- 7, "unlisted, under strict"
-abbrev pub UnlistedStrict : Choice → List ℕ → Type 0
-UnlistedStrict choice l = (s : Six l) × Unlisted (s .head) × (goodEnd (s .head .count) (s .fields) ≡ true) × (choice ≡ Strict)
+abbrev pub UnlistedStrict : Choice → List ℕ → ℕ → Type 0
+UnlistedStrict choice l k = (s : Six l) × Unlisted (s .head) k × (goodEnd (s .head .count) (s .fields) ≡ true) × (choice ≡ Strict)
 
 -- 8, "message event not handled"
-abbrev pub NotHandled : List ℕ → Type 0
-NotHandled l = (s : Six l) × (listedKind (s .head .kind) ≡ true) × (standingOf (s .head .event) ≡ Standing.NotHandled)
+abbrev pub NotHandled : List ℕ → ℕ → Type 0
+NotHandled l k = (s : Six l) × (listedKind (s .head .kind) ≡ true) × (standingOf (s .head .event) ≡ Standing.NotHandled) × (k ≡ 1)
 
--- 9, "listed record: processor outside 0 to 63 or process not 0"
-abbrev pub BadPlace : List ℕ → Type 0
-BadPlace l = (s : Six l) × ListedHead (s .head) × (placed (s .head .processor) (s .head .process) ≡ none)
+-- "processor outside 0 to 63 or process not 0"
+pub data OffPlace (h : Head) : ℕ → Type 0 where
+  processor-outside : upTo 63 (h .processor) ≡ false → OffPlace h 3
+  process-not-0 : upTo 63 (h .processor) ≡ true → ¬ (h .process ≡ pos 0) → OffPlace h 4
+
+-- 9, of a listed record
+abbrev pub BadPlace : List ℕ → ℕ → Type 0
+BadPlace l k = (s : Six l) × ListedHead (s .head) × OffPlace (s .head) k
+
+-- "For 10 it is the data count's if that is wrong, else the descriptor's if it isn't 2, else the first bad datum's.": of a record with this
+-- many data, the descriptor and the data behind it
+pub data Lacks (n : ℕ) (fields : Option (List ℕ)) : ℕ → Type 0 where
+  other-count : ¬ (n ≡ 3) → Lacks n fields 5
+  other-descriptor : (l : List ℕ) → n ≡ 3 → fields ≡ some l → ¬ (wholeOf (field l) ≡ Good (pos 2)) → Lacks n fields 6
+  bad-length : (length tag peer : ℤ) → dataOf n fields ≡ Values.Good (Three length tag peer) → length <ℤ pos 0 → Lacks n fields 7
+  bad-peer : (length tag peer : ℤ) → dataOf n fields ≡ Values.Good (Three length tag peer) → pos 0 ≤ℤ length → upTo 63 peer ≡ false
+      → Lacks n fields 9
 
 -- 10, "a send or receive without its three good data"
-pub record NoMessage (l : List ℕ) : Type 0 where
+pub record NoMessage (l : List ℕ) (k : ℕ) : Type 0 where
   pub place : OnPlace l
-  pub well-formed : ¬ (dataIn (place .six) ≡ Malformed)
+  pub values : Data
+  pub well-formed : dataIn (place .six) ≡ Values.Good values
   pub sends-or-receives : ¬ (partOf (place .six .head .kind) (place .six .head .event) ≡ Part.Neither)
-  pub no-message : messageOf (dataIn (place .six)) ≡ none
+  pub lacks : Lacks (place .six .head .count) (place .six .fields) k
 
 -- ---- 11 and 12, after these records
 

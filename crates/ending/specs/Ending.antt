@@ -6,6 +6,7 @@ use mathlib.Core.Bool.{cond}
 use lib.ListN.{length, drop}
 use lib.IntN.{ℤ}
 use lib.Dec.{eqb, leb}
+use Rattle.paper.specs.Columns.{nowhere}
 use Rattle.paper.specs.declared.Fault.the-variants as Fault
 use Rattle.paper.specs.declared.Answer.{Answer}
 use Rattle.writing.specs.declared.Written.{Written}
@@ -16,8 +17,8 @@ use Rattle.answer.specs.Answers.{refusal, acceptance}
 -- "then 16", or acceptance with the written trace's length
 unfoldable pub answerFor : Counts → Written → Answer
 answerFor c (Length bytes) = acceptance c bytes
-answerFor c NoRoom = refusal Fault.NoRoom 0
-answerFor c Unfit = refusal Fault.NoRoom 0
+answerFor c NoRoom = refusal Fault.NoRoom nowhere
+answerFor c Unfit = refusal Fault.NoRoom nowhere
 
 -- the new times in the first places, where there is one for each
 unfoldable pub placed : (new times : List ℤ) → List ℤ

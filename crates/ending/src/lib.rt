@@ -27,9 +27,9 @@ fn answer_for(counts: Counts, done: Written) -> Answer
 {
     match done {
         Written::Length(bytes) => answer::accepted(counts, bytes),
-        Written::NoRoom => answer::refused(Fault::NoRoom, 0),
+        Written::NoRoom => answer::refused_nowhere(Fault::NoRoom),
         // never: the store is that of the trace, and the times that the clock condition settles are within the limit
-        Written::Unfit => answer::refused(Fault::NoRoom, 0),
+        Written::Unfit => answer::refused_nowhere(Fault::NoRoom),
     }
 }
 

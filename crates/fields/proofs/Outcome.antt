@@ -16,9 +16,12 @@ same-begun l (Six h n) (Six g m) e a b =
     let k : h ≡ g = cc in
     let d : restAt l n ≡ restAt l m = cc in
     rw (k, one-cursor l n m d a b)
-same-begun l (Six h n) (Bad f) e a b = cc
-same-begun l (Bad f) (Six g m) e a b = cc
-same-begun l (Bad f) (Bad g) e a b = let k : f ≡ g = cc in rw k
+same-begun l (Six h n) (Bad f i) e a b = cc
+same-begun l (Bad f i) (Six g m) e a b = cc
+same-begun l (Bad f i) (Bad g j) e a b =
+    let k : f ≡ g = cc in
+    let d : i ≡ j = cc in
+    rw (k, d)
 
 pub one-head : (l : List ℕ) (r q : Opening) → Tells l (begunOf l r) (headOf l) (begunNext r) → Tells l (begunOf l q) (headOf l) (begunNext q) → r ≡ q
 one-head l r q e f = same-begun l r q (e .is ∙ sym (f .is)) (e .near) (f .near)

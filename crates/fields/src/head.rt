@@ -1,9 +1,10 @@
 // "The six fields left to right".
-ghost use mathlib.Core.Path.{_≡_};
-ghost use Rattle.paper.specs.Line.{headOf, placeOf, fieldsAbove};
+ghost use mathlib.Core.Option.{some};
+ghost use Rattle.paper.specs.Line.{sixOf, placeOf};
 ghost use Rattle.field.specs.Cursor.{restAt, Tells};
-ghost use Rattle.fields.specs.Cursor.{begunOf, begunNext, badStamp};
+ghost use Rattle.fields.specs.Cursor.{begunOf, begunNext, badField};
 use crate::Opening;
+use begins::Begin;
 use field::Counted;
 use field::Form;
 use field::Got;
@@ -15,13 +16,13 @@ fn place(l: &[u8], at: usize, kind: i64, event: i64, time: i64) -> Opening
     ensures { λ r. ⌜ Tells (now (l .entry)) (begunOf (now (l .entry)) r) (placeOf kind event time (restAt (now (l .entry)) at)) (begunNext r) ⌝ }
 {
     let Got::Value(processor, p4) = field::value_at(l, at, Form::Whole) else {
-        return Opening::Bad(Fault::Form);
+        return Opening::Bad(Fault::Form, 3);
     };
     let Got::Value(process, p5) = field::value_at(l, p4, Form::Whole) else {
-        return Opening::Bad(Fault::Form);
+        return Opening::Bad(Fault::Form, 4);
     };
     let Counted::Of(count, p6) = field::count_at(l, p5) else {
-        return Opening::Bad(Fault::Form);
+        return Opening::Bad(Fault::Form, 5);
     };
     Opening::Six(
         Head {
@@ -36,45 +37,28 @@ fn place(l: &[u8], at: usize, kind: i64, event: i64, time: i64) -> Opening
     )
 }
 
-// There are more than n fields from the cursor on.
-fn fields_above(l: &[u8], n: usize) -> bool
-    ensures { λ r. ⌜ r ≡ fieldsAbove n (now (l .entry)) ⌝ }
-{
-    let mut left = n;
-    let mut at = 0;
-    while 0 < left {
-        let end = bytes::scan::find(l, at, l.len(), 32);
-        if end == l.len() {
-            return false;
-        }
-        at = end + 1;
-        left -= 1;
-    }
-    true
-}
-
-// "fewer than six fields (5)" comes before a bad timestamp (6). Of every other field both say 5, so that only a bad timestamp has
-// the fields counted.
+// All six, of which some may be missing.
 pub(crate) fn six(l: &[u8]) -> Opening
-    ensures { λ r. ⌜ Tells (now (l .entry)) (begunOf (now (l .entry)) r) (headOf (now (l .entry))) (begunNext r) ⌝ }
+    ensures { λ r. ⌜ Tells (now (l .entry)) (begunOf (now (l .entry)) r) (sixOf (some (now (l .entry)))) (begunNext r) ⌝ }
 {
     let Got::Value(kind, p1) = field::value_at(l, 0, Form::Whole) else {
-        return Opening::Bad(Fault::Form);
+        return Opening::Bad(Fault::Form, 0);
     };
     let Got::Value(event, p2) = field::value_at(l, p1, Form::Whole) else {
-        return Opening::Bad(Fault::Form);
+        return Opening::Bad(Fault::Form, 1);
     };
     let Got::Value(time, p3) = field::value_at(l, p2, Form::Time) else {
-        return bad_stamp(l);
+        return Opening::Bad(Fault::Stamp, 2);
     };
     place(l, p3, kind, event, time)
 }
 
-fn bad_stamp(l: &[u8]) -> Opening
-    ensures { λ r. ⌜ Tells (now (l .entry)) (begunOf (now (l .entry)) r) (badStamp (now (l .entry))) (begunNext r) ⌝ }
+// "fewer than six fields (5)" comes before every bad field: only where one is bad are the fields counted.
+pub(crate) fn bad_field(l: &[u8], fault: Fault, k: usize) -> Opening
+    ensures { λ r. ⌜ Tells (now (l .entry)) (begunOf (now (l .entry)) r) (badField (now (l .entry)) fault k) (begunNext r) ⌝ }
 {
-    if fields_above(l, 5) {
-        return Opening::Bad(Fault::Stamp);
+    match begins::begin_of(l, 5) {
+        Begin::At(_) => Opening::Bad(fault, k),
+        Begin::Missing => Opening::Bad(Fault::Form, 5),
     }
-    Opening::Bad(Fault::Form)
 }

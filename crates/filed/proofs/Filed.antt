@@ -7,6 +7,7 @@ use mathlib.Core.List.{List}
 use mathlib.Core.Option.{Option}
 use lib.ListN.{length}
 use lib.Dec.{eqb}
+use Rattle.paper.specs.Columns.{nowhere}
 use Rattle.paper.specs.declared.Answer.{Answer}
 use Rattle.paper.specs.declared.Asked.{Asked}
 use Rattle.paper.specs.declared.Fault.the-variants as Fault
@@ -42,7 +43,7 @@ module _ (asked : Asked) (wanted : Bool) (trace : List ℕ) where
   ends false got fits table {said} t e = let q : said ≡ CannotRead = cc in record { stored = true; says = q }
   ends true false fits table {said} t e = let q : said ≡ CannotRead = cc in record { stored = true; says = q }
   ends true true false table {said} t e =
-      let q : said ≡ Answered (refusal Fault.WrongLength 0) = cc in record { stored = true; says = q ∙ rw (sym t) }
+      let q : said ≡ Answered (refusal Fault.WrongLength nowhere) = cc in record { stored = true; says = q ∙ rw (sym t) }
   ends true true true table t e = absurd (let z : _≡_ {A = ℕ} 0 1 = cc in omega arith)
 
   -- and with it

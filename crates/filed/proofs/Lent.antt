@@ -6,6 +6,7 @@ use mathlib.Core.List.{List}
 use lib.ListN.{length, length-replicate}
 use lib.IntN.{ℤ, pos}
 use lib.Dec.{ltb}
+use Rattle.paper.specs.Columns.{nowhere}
 use Rattle.paper.specs.declared.Asked.{Asked}
 use Rattle.paper.specs.declared.Fault.the-variants as Fault
 use Rattle.paper.specs.Answer.{Inputs, Outcome, Found, Reached, stopped, found, given, reach, refused, accepted, written, onWritten, conclude, judge}
@@ -19,15 +20,15 @@ module _ (trace latencies : List ℕ) (asked : Asked) (wanted : Bool) where
 
   module _ (times times′ : List ℤ) (room room′ : List ℕ) (long : length times ≡ length times′) (wide : length room ≡ length room′) where
     ends : (f : Found) (bytes : List ℕ) (t : Bool)
-        → cond t (refused (on times room) Fault.NoRoom 0) (accepted (on times room) f bytes) .answer
-        ≡ cond t (refused (on times′ room′) Fault.NoRoom 0) (accepted (on times′ room′) f bytes) .answer
+        → cond t (refused (on times room) Fault.NoRoom nowhere) (accepted (on times room) f bytes) .answer
+        ≡ cond t (refused (on times′ room′) Fault.NoRoom nowhere) (accepted (on times′ room′) f bytes) .answer
     unfolding refused accepted
     ends f bytes true = refl
     ends f bytes false = refl
 
     concludes : (x : Reached) → conclude (on times room) x .answer ≡ conclude (on times′ room′) x .answer
     unfolding conclude onWritten refused written
-    concludes (stopped fault line) = refl
+    concludes (stopped fault site) = refl
     concludes (found f) =
         let bytes = written (on times room) (f .choice) (f .times) in rw (← wide) (ends f bytes (ltb (length room) (length bytes)))
 

@@ -8,18 +8,19 @@ use lib.Seq.{length-take-le}
 use lib.ListN.{length, take}
 use lib.Dec.{ltb}
 use borrow.Author.Tests.{ltb-false}
+use Rattle.paper.specs.Columns.{nowhere}
 use Rattle.paper.specs.declared.Fault.the-variants as Fault
 use Rattle.paper.specs.Answer.{Inputs, Outcome, Reached, stopped, found, given, reach, refused, accepted, written, onWritten, conclude, judge}
 
 within : (i : Inputs) (x : Reached) → conclude i x .answer .written ≤ length (i .room)
 unfolding conclude onWritten refused accepted
-within i (stopped fault line) = omega arith
+within i (stopped fault site) = omega arith
 within i (found f) = go (written i (f .choice) (f .times))
   where
-    go : (bytes : List ℕ) → cond (ltb (length (i .room)) (length bytes)) (refused i Fault.NoRoom 0) (accepted i f bytes) .answer .written ≤ length (i .room)
+    go : (bytes : List ℕ) → cond (ltb (length (i .room)) (length bytes)) (refused i Fault.NoRoom nowhere) (accepted i f bytes) .answer .written ≤ length (i .room)
     go bytes = by (ltb (length (i .room)) (length bytes)) refl
       where
-        by : (t : Bool) → ltb (length (i .room)) (length bytes) ≡ t → cond t (refused i Fault.NoRoom 0) (accepted i f bytes) .answer .written ≤ length (i .room)
+        by : (t : Bool) → ltb (length (i .room)) (length bytes) ≡ t → cond t (refused i Fault.NoRoom nowhere) (accepted i f bytes) .answer .written ≤ length (i .room)
         by true e = omega arith
         by false e = ltb-false (length (i .room)) (length bytes) e
 

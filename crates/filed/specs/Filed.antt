@@ -8,6 +8,7 @@ use mathlib.Core.Option.{Option, none, some}
 use lib.ListN.{length, replicate}
 use lib.IntN.{ℤ, pos}
 use lib.Dec.{eqb}
+use Rattle.paper.specs.Columns.{nowhere}
 use Rattle.paper.specs.Answer.{judge}
 use Rattle.paper.specs.declared.Answer.{Answer}
 use Rattle.paper.specs.declared.Asked.{Asked}
@@ -42,7 +43,7 @@ onLatencies asked wanted trace latencies stored =
 unfoldable pub onTable : (asked : Asked) (wanted : Bool) (trace table : List ℕ) (stored : Bool) → Said
 onTable asked wanted trace table stored =
     let judged = onLatencies asked wanted trace (latenciesOf table) stored in
-    cond (eqb (length table) 16384) judged (Said.Answered (refusal Fault.WrongLength 0))
+    cond (eqb (length table) 16384) judged (Said.Answered (refusal Fault.WrongLength nowhere))
 
 -- "a file that can't be read .. gives the single line "cannot read"": either file, before all else that is asked of them
 unfoldable pub onFiles : (asked : Asked) (wanted : Bool) (trace table : Option (List ℕ)) (stored : Bool) → Said

@@ -12,6 +12,7 @@ use lib.Seq.{ext-getD}
 use lib.IntN.{ℤ, pos}
 use lib.Dec.{T, ltb, leb, eqb}
 use borrow.Author.Tests.{lt-ltb, le-ltb, le-leb, eq-eqb, eqb-true}
+use Rattle.paper.specs.Columns.{nowhere}
 use Rattle.paper.specs.Answer.{Inputs, Found, stopped, found, given, most, rightLengths, reach, conclude, judge, accepted, originals, onWritten, written, refused}
 use Rattle.paper.specs.Clock.{Waits, listed, same, timeAt}
 use Rattle.paper.specs.Numbers.{numberOf}
@@ -21,6 +22,7 @@ use Rattle.paper.specs.Written.{writtenFrom}
 use Rattle.paper.specs.declared.Answer.{Answer}
 use Rattle.paper.specs.declared.Entry.{Entry}
 use Rattle.paper.specs.declared.Fault.{Fault}
+use Rattle.paper.specs.declared.Site.{Site}
 use Rattle.paper.specs.declared.Fault.the-variants as Fault
 use Rattle.paper.specs.declared.Stop.the-variants.{End}
 use Rattle.rounds.specs.Meaning as rounds
@@ -50,9 +52,9 @@ use Rattle.judge.specs.Call.{inputs, outcome, wroteBy, FinishedBy, WithP
 -- ---- a refusal
 
 -- it leaves what was lent as it was
-refused-is : (i : Inputs) (fault : Fault) (line : ℕ) → outcome (refusal fault line) (i .times) (i .room) ≡ refused i fault line
+refused-is : (i : Inputs) (fault : Fault) (site : Site) → outcome (refusal fault site) (i .times) (i .room) ≡ refused i fault site
 unfolding refusal refused
-refused-is i fault line = refl
+refused-is i fault site = refl
 
 -- ---- the times were found
 
@@ -156,7 +158,7 @@ module _ (i : Inputs) (f : Found) (is : reach (given i) ≡ found f) where
           rw (by .answer, by .keeps, enough, q, le-ltb (length (i .room)) (length bytes) (rw q at h)) (sym (accepted-is bytes))
       ended done room′ by bytes (no-room {word = word} e h) =
           let q : word ≡ bytes = cc in
-          rw (by .answer, by .keeps, lt-ltb (length (i .room)) (length bytes) (rw q at h)) (refused-is i Fault.NoRoom 0)
+          rw (by .answer, by .keeps, lt-ltb (length (i .room)) (length bytes) (rw q at h)) (refused-is i Fault.NoRoom nowhere)
       ended done room′ by bytes (misfit e) = absurd (let z : _≡_ {A = ℕ} 0 1 = cc in omega arith)
 
       finished : {room′ : List ℕ} → FinishedBy counts (i .trace) store (f .times) (i .times) (i .wanted) (i .room) r times′ room′
@@ -196,13 +198,13 @@ unfolding WithPlaces
 within new enough counts e = rw e at enough
 
 module _ (trace store : List ℕ) (new times : List ℤ) (wanted : Bool) (room : List ℕ) (r : Answer) where
-  pub concluded-refused : {reached : Reached} (fault : Fault) (line : ℕ) → reached ≡ Refused fault line → r ≡ refusal fault line
+  pub concluded-refused : {reached : Reached} (fault : Fault) (site : Site) → reached ≡ Refused fault site → r ≡ refusal fault site
       → ConcludedBy reached trace store new times wanted room r times room
   unfolding ConcludedBy reaches judge conclude
-  concluded-refused fault line e a latencies asked sends says =
+  concluded-refused fault site e a latencies asked sends says =
       let i = inputs trace latencies asked times wanted room in
-      let stops : reach (given i) ≡ stopped fault line = rw e at says in
-      rw (stops, a) (refused-is i fault line)
+      let stops : reach (given i) ≡ stopped fault site = rw e at says in
+      rw (stops, a) (refused-is i fault site)
 
   pub concluded-never : {reached : Reached} → reached ≡ Misfit → ConcludedBy reached trace store new times wanted room r times room
   unfolding ConcludedBy reaches
@@ -223,7 +225,7 @@ pub with-places : (i : Inputs) (reached : Reached) (store sends : List ℕ) (new
     → most (given i) ≤ length new → WithPlaces reached new
 unfolding WithPlaces reaches
 with-places i (Times counts) store sends new (f, is, held) long = omega (arith, held .listed, few i f is)
-with-places i (Refused fault line) store sends new says long = tt
+with-places i (Refused fault site) store sends new says long = tt
 with-places i Misfit store sends new says long = tt
 
 -- slices made for as many records as a call may list

@@ -40,7 +40,7 @@ pub record FinishedBy (counts : Counts) (trace store : List ℕ) (new times : Li
 -- a place for each listed record among the new times
 unfoldable pub WithPlaces : Reached → List ℤ → Type 0
 WithPlaces (Times counts) new = counts .listed ≤ length new
-WithPlaces (Refused fault line) new = Unit
+WithPlaces (Refused fault site) new = Unit
 WithPlaces Misfit new = Unit
 
 -- whatever the table and what the caller named: where the call came so far with them, it comes to this

@@ -43,8 +43,8 @@ pub(crate) fn conclude(
             let listed = counts.listed;
             finish(counts, trace, store, &new[0..listed], times, wanted, room)
         }
-        Reached::Refused(fault, line) => answer::refused(fault, line),
+        Reached::Refused(fault, site) => answer::refused(fault, site),
         // never: the slices of a call are made for as many records as it may list
-        Reached::Misfit => answer::refused(Fault::NoTimes, 0),
+        Reached::Misfit => answer::refused_nowhere(Fault::NoTimes),
     }
 }

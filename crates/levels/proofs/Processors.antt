@@ -9,11 +9,13 @@ use mathlib.Core.Option.{Option, none, some, Option·getD, Option·map}
 use lib.ListN.{getD, set, replicate}
 use borrow.Author.Tests.{eq-eqb, ne-eqb}
 use Rattle.paper.specs.Matching.{entryAt, isOn, lastOn}
+use Rattle.paper.specs.Columns.{wholeLine}
 use Rattle.paper.specs.Levels.{counts, isMark, lastMark, expected, agrees, offAt, onOff, levelsFrom, levelsOf}
 use Rattle.paper.specs.declared.Asked.{Asked}
 use Rattle.paper.specs.declared.Data.{Data}
 use Rattle.paper.specs.declared.Entry.{Entry}
 use Rattle.paper.specs.declared.Fault.the-variants as Fault
+use Rattle.paper.specs.declared.Site.{Site}
 use Rattle.paper.specs.declared.Stop.{Stop}
 use Rattle.paper.specs.declared.Stop.the-variants.{End, At}
 use Rattle.matching.proofs.EachLast.{EachLast, each-none, each-more}
@@ -116,8 +118,8 @@ module _ (a : Asked) (l : List ℕ) (n : ℕ) where
       unfolding levelsFrom
       one-on = let z : 64 - p ≡ suc (64 - (p + 1)) = omega arith in rw (z, add-one p)
 
-      pub off-here : told ≡ true → {line : ℕ} → line ≡ entryFrom l (getD last p 0) .line
-          → At Fault.OtherLevels line ≡ levelsFrom a es p (64 - p)
+      pub off-here : told ≡ true → {site : Site} → site ≡ wholeLine (entryFrom l (getD last p 0) .line)
+          → At Fault.OtherLevels site ≡ levelsFrom a es p (64 - p)
       off-here e f = rw (one-on, off-at p p<, ← tells, e, f)
 
       pub not-here : told ≡ false → levelsFrom a es p (64 - p) ≡ levelsFrom a es (p + 1) (64 - (p + 1))

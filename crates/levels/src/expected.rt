@@ -21,7 +21,6 @@ fn expected(values: Data, asked: Asked) -> bool
     ensures { λ r. ⌜ r ≡ levels.expected asked values ⌝ }
 {
     match values {
-        Data::Malformed => false,
         Data::Three(picl, user, trace) => same_three(picl, user, trace, asked),
         Data::Others => false,
     }

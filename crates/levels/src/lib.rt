@@ -27,7 +27,7 @@ fn first_off(store: &[u32], listed: usize, last: &[usize], mark: &[usize], asked
     let mut p: usize = 0;
     while p < 64 {
         if expected::off(store, listed, last[p], mark[p], asked) {
-            return Stop::At(Fault::OtherLevels, store::line_at(store, last[p]));
+            return Stop::At(Fault::OtherLevels, store::site_at(store, last[p]));
         }
         p += 1;
     }

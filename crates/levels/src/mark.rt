@@ -10,7 +10,6 @@ fn is_three(values: Data) -> bool
     ensures { λ r. ⌜ r ≡ isThree values ⌝ }
 {
     match values {
-        Data::Malformed => false,
         Data::Three(_, _, _) => true,
         Data::Others => false,
     }

@@ -7,10 +7,12 @@ use mathlib.Core.Option.{Option, none, some}
 use lib.IntN.{ℤ, pos, negsuc, natAbs}
 use lib.Signed.{leZ}
 use lib.Dec.{leb·zero}
+use borrow.Author.Tests.{eq-eqb, ne-eqb}
 use Rattle.paper.specs.Tests.{eqZ, upTo}
-use Rattle.paper.specs.Line.{partOf, messageOf, placed, onPlace, listedLine, roleOf, withRole, withData, dataOf}
+use Rattle.paper.specs.Line.{partOf, messageOf, lacking, placed, misplaced, onPlace, listedLine, roleOf, withRole, withData, dataOf}
 use Rattle.paper.specs.declared.Data.{Data}
 use Rattle.paper.specs.declared.Data.the-variants.{Three, Others}
+use Rattle.paper.specs.declared.Values.the-variants.{Good, Bad}
 use Rattle.paper.specs.declared.Role.{Role}
 use Rattle.paper.specs.declared.Role.the-variants as Role
 use Rattle.paper.specs.declared.Part.{Part}
@@ -18,6 +20,7 @@ use Rattle.paper.specs.declared.Part.the-variants.{Neither, Sends, Receives}
 use Rattle.paper.specs.declared.Message.{Message}
 use Rattle.paper.specs.declared.Head.{Head}
 use Rattle.paper.specs.declared.Fault.the-variants as Fault
+use Rattle.paper.specs.declared.Spot.the-variants.{Field}
 use Rattle.paper.specs.declared.Line.the-variants.{Refused, Listed}
 use Rattle.signed.specs.Naturals.{numberIn}
 use Rattle.line.specs.Sorting.{noteOf}
@@ -77,6 +80,26 @@ module _ {l u t v p w : ℤ} (same-length : u ≡ l) (same-tag : v ≡ t) (same-
       let b = up-to 63 p m (rw same-peer at h) in
       rw (same-tag, a, leb·zero n, b .0, b .1)
 
+-- ---- the field that a message lacks
+
+module _ (h : Head) {l t p u : ℤ} (d : Data) (same-length : u ≡ l) (is : d ≡ Three l t p) where
+  pub lacks-length : sizeOf u ≡ Outside → 7 ≡ lacking h d
+  unfolding lacking
+  lacks-length e = rw (is, negative l (rw same-length at e))
+
+  pub lacks-peer : (n : ℕ) → sizeOf u ≡ Of n → 9 ≡ lacking h d
+  unfolding lacking
+  lacks-peer n e = let a : l ≡ pos n = sym same-length ∙ not-negative u n e in rw (is, a, leb·zero n)
+
+module _ (h : Head) (d : Data) (is : d ≡ Others) where
+  pub lacks-descriptor : h .count ≡ 3 → 6 ≡ lacking h d
+  unfolding lacking
+  lacks-descriptor e = rw (is, eq-eqb (h .count) 3 e)
+
+  pub lacks-data : (h .count ≡ 3 → ⊥) → 5 ≡ lacking h d
+  unfolding lacking
+  lacks-data e = rw (is, ne-eqb (h .count) 3 e)
+
 -- ---- the place of a listed record
 
 module _ {p u q v : ℤ} (same-processor : u ≡ p) (same-process : v ≡ q) where
@@ -96,15 +119,29 @@ module _ {p u q v : ℤ} (same-processor : u ≡ p) (same-process : v ≡ q) whe
       go true = refl
       go false = refl
 
-module _ (h : Head) (fields : Option (List ℕ)) (r : Natural) (is : numberIn r ≡ placed (h .processor) (h .process)) where
-  pub no-place : r ≡ Outside → Refused Fault.Place ≡ listedLine h fields
-  unfolding listedLine onPlace numberIn
-  no-place e = rw (← is, e)
+module _ (h : Head) {u : ℤ} (same : u ≡ h .processor) where
+  pub other-processor : naturalOf 63 u ≡ Outside → 3 ≡ misplaced h
+  unfolding misplaced
+  other-processor e = rw (above 63 (h .processor) (rw same at e))
 
-  pub good-place : (n : ℕ) → r ≡ Of n → {k e : ℤ} {d : Data} (part : Part) → k ≡ h .kind → e ≡ h .event → part ≡ partOf k e → d ≡ dataOf (h .count) fields
-      → withData h n part d ≡ listedLine h fields
+  pub own-processor : (n : ℕ) → naturalOf 63 u ≡ Of n → 4 ≡ misplaced h
+  unfolding misplaced
+  own-processor n e = rw (up-to 63 (h .processor) n (rw same at e) .0)
+
+module _ (h : Head) (fields : Option (List ℕ)) (r : Natural) (is : numberIn r ≡ placed (h .processor) (h .process)) where
+  pub no-place : r ≡ Outside → {k : ℕ} → k ≡ misplaced h → Refused Fault.Place (Field k) ≡ listedLine h fields
   unfolding listedLine onPlace numberIn
-  good-place n o part b c q s = rw (← is, o, q, b, c, s)
+  no-place e q = rw (q, ← is, e)
+
+  module _ (n : ℕ) (o : r ≡ Of n) where
+    pub bad-data : (k : ℕ) → Bad k ≡ dataOf (h .count) fields → Refused Fault.Form (Field k) ≡ listedLine h fields
+    unfolding listedLine onPlace numberIn withData
+    bad-data k s = rw (← is, o, ← s)
+
+    pub good-place : {k e : ℤ} (d : Data) (part : Part) (role : Option Role) → k ≡ h .kind → e ≡ h .event → part ≡ partOf k e → role ≡ roleOf part d
+        → Good d ≡ dataOf (h .count) fields → withRole h n d role ≡ listedLine h fields
+    unfolding listedLine onPlace numberIn withData
+    good-place d part role b c q t s = rw (← is, o, ← s, t, q, b, c)
 
 -- ---- the record put together
 
@@ -114,18 +151,9 @@ module _ (h : Head) (p : ℕ) (values : Data) (o : Option Role) where
   unfolding withRole
   listed-with role a b c q = rw (a, b, c, q)
 
-  pub not-with : o ≡ none → Refused Fault.NoMessage ≡ withRole h p values o
+  pub not-with : o ≡ none → {k : ℕ} → k ≡ lacking h values → Refused Fault.NoMessage (Field k) ≡ withRole h p values o
   unfolding withRole
-  not-with q = rw q
-
-module _ (h : Head) (p : ℕ) (part : Part) (d : Data) (o : Option Role) (is : o ≡ roleOf part d) where
-  pub with-three : {a b c : ℤ} → d ≡ Three a b c → withRole h p d o ≡ withData h p part d
-  unfolding withData
-  with-three e = rw (is, e)
-
-  pub with-others : d ≡ Others → withRole h p d o ≡ withData h p part d
-  unfolding withData
-  with-others e = rw (is, e)
+  not-with q e = rw (q, e)
 
 -- ---- the role by the part and the message
 

@@ -12,13 +12,14 @@ use lib.Dec.{ltb}
 use denote.Enum.Declared.{tagOf}
 use borrow.Author.Tests.{lt-ltb, le-ltb, ltb-true, ltb-false}
 use Rattle.paper.specs.Events.{listedKind, standingOf}
-use Rattle.paper.specs.Line.{goodEnd, stepOver, unlisted, listedLine, sorted, six, begun, lineOf, headOf}
+use Rattle.paper.specs.Line.{goodEnd, unknown, stepOver, unlisted, listedLine, sorted, six, begun, lineOf, headOf}
 use Rattle.paper.specs.declared.Choice.{Choice}
 use Rattle.paper.specs.declared.Head.{Head}
 use Rattle.paper.specs.declared.Fault.{Fault}
 use Rattle.paper.specs.declared.Fault.the-variants as Fault
 use Rattle.paper.specs.declared.Standing.{Standing}
 use Rattle.paper.specs.declared.Standing.the-variants as Standing
+use Rattle.paper.specs.declared.Spot.the-variants.{Field}
 use Rattle.paper.specs.declared.Line.the-variants.{Refused}
 use Rattle.paper.proofs.Standing.{the-type}
 use Rattle.field.specs.Cursor.{restAt, Tells}
@@ -63,14 +64,25 @@ module _ {kind event k e : ℤ} (same-kind : k ≡ kind) (same-event : e ≡ eve
   unfolding standingIn
   kind-unlisted t = rw (← same-kind, ← tells, t)
 
+-- ---- the field that makes a line unlisted
+
+module _ (h : Head) {k : ℤ} (same : k ≡ h .kind) {told : Bool} (tells : told ≡ listedKind k) where
+  pub by-event : told ≡ true → 1 ≡ unknown h
+  unfolding unknown
+  by-event t = rw (← same, ← tells, t)
+
+  pub by-kind : told ≡ false → 0 ≡ unknown h
+  unfolding unknown
+  by-kind t = rw (← same, ← tells, t)
+
 -- ---- the line
 
 module _ (choice : Choice) (h : Head) (fields : Option (List ℕ)) where
-  pub end-good : goodEnd (h .count) fields ≡ true → stepOver choice ≡ unlisted choice h fields
+  pub end-good : goodEnd (h .count) fields ≡ true → stepOver choice h ≡ unlisted choice h fields
   unfolding unlisted
   end-good e = rw e
 
-  pub end-bad : goodEnd (h .count) fields ≡ false → Refused Fault.Form ≡ unlisted choice h fields
+  pub end-bad : goodEnd (h .count) fields ≡ false → Refused Fault.Form (Field 6) ≡ unlisted choice h fields
   unfolding unlisted
   end-bad e = rw e
 
@@ -104,6 +116,6 @@ module _ (choice : Choice) (l : List ℕ) (r : Opening) (told : Tells l (begunOf
   unfolding lineOf begunOf
   opened h next e = ap (begun choice) (sym (ap (begunOf l) e) ∙ told .is)
 
-  pub not-opened : (fault : Fault) → r ≡ Opening.Bad fault → Refused fault ≡ lineOf choice l
+  pub not-opened : (fault : Fault) (k : ℕ) → r ≡ Opening.Bad fault k → Refused fault (Field k) ≡ lineOf choice l
   unfolding lineOf begunOf begun
-  not-opened fault e = ap (begun choice) (sym (ap (begunOf l) e) ∙ told .is)
+  not-opened fault k e = ap (begun choice) (sym (ap (begunOf l) e) ∙ told .is)

@@ -28,7 +28,7 @@ fn over(choice: Choice, s: &[u8], h: Head, ended: bool, at: usize) -> Quick
     let Ends::At(next) = tail::read_end(s, ended, at, h.count) else {
         return Quick::Doubt;
     };
-    Quick::Of(sort::step_over(choice), next)
+    Quick::Of(sort::step_over(choice, h), next)
 }
 
 // "Next the record type (7 or passed over), event not handled (8), event type (7 or passed over)"

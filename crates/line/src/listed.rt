@@ -1,9 +1,11 @@
-// A listed line: "then 9, data (5), 10".
+// A listed line: "then 9, data (5), 10". Of its fields, counted from 0, the processor is 3, the process 4, the number of data 5 and the
+// descriptor 6; the three data of a message are 7 to 9.
 ghost use Prim.Native.Nat.{ℕ};
 ghost use mathlib.Core.Path.{_≡_};
 ghost use mathlib.Core.List.{List};
 ghost use mathlib.Core.Option.{Option};
-ghost use Rattle.paper.specs.Line.{placed, messageOf, roleOf, withRole, withData, dataOf, listedLine};
+ghost use Rattle.paper.specs.Line as paper;
+ghost use Rattle.paper.specs.Line.{placed, messageOf, roleOf, withRole, dataOf, listedLine};
 ghost use Rattle.field.specs.Cursor.{restAt};
 ghost use Rattle.signed.specs.Naturals.{numberIn};
 ghost use Rattle.line.specs.Sorting.{noteOf, castOf};
@@ -15,6 +17,8 @@ use paper::Message;
 use paper::Part;
 use paper::Record;
 use paper::Role;
+use paper::Spot;
+use paper::Values;
 use signed::Natural;
 
 // A message, or no message.
@@ -50,7 +54,6 @@ fn noted(values: Data) -> Note
     ensures { λ r. ⌜ noteOf r ≡ messageOf values ⌝ }
 {
     match values {
-        Data::Malformed => Note::Nothing,
         Data::Three(length, tag, peer) => three_noted(length, tag, peer),
         Data::Others => Note::Nothing,
     }
@@ -72,6 +75,25 @@ fn role_of(part: Part, values: Data) -> Cast
     }
 }
 
+// The field that a send or receive without its message lacks: "the data count's if that is wrong, else the descriptor's if it isn't 2, else
+// the first bad datum's".
+fn lacking(h: Head, values: Data) -> usize
+    ensures { λ r. ⌜ r ≡ paper.lacking h values ⌝ }
+{
+    match values {
+        Data::Three(length, _, _) => match signed::size(length) {
+            Natural::Of(_) => 9,
+            Natural::Outside => 7,
+        },
+        Data::Others => {
+            if h.count == 3 {
+                return 6;
+            }
+            5
+        }
+    }
+}
+
 // "a send or receive without its three good data" is 10
 fn with_role(h: Head, processor: usize, values: Data, cast: Cast) -> Line
     ensures { λ r. ⌜ r ≡ withRole h processor values (castOf cast) ⌝ }
@@ -85,18 +107,7 @@ fn with_role(h: Head, processor: usize, values: Data, cast: Cast) -> Line
             values: values,
             role: role,
         }),
-        Cast::Nothing => Line::Refused(Fault::NoMessage),
-    }
-}
-
-// "data (5), 10"
-fn with_data(h: Head, processor: usize, part: Part, values: Data) -> Line
-    ensures { λ r. ⌜ r ≡ withData h processor part values ⌝ }
-{
-    match values {
-        Data::Malformed => Line::Refused(Fault::Form),
-        Data::Three(_, _, _) => with_role(h, processor, values, role_of(part, values)),
-        Data::Others => with_role(h, processor, values, role_of(part, values)),
+        Cast::Nothing => Line::Refused(Fault::NoMessage, Spot::Field(lacking(h, values))),
     }
 }
 
@@ -110,18 +121,42 @@ fn place_of(processor: i64, process: i64) -> Natural
     Natural::Outside
 }
 
-// "then 9, data (5), 10", of data that were read.
+// Of the two the field that is bad, left to right.
+fn misplaced(h: Head) -> usize
+    ensures { λ r. ⌜ r ≡ paper.misplaced h ⌝ }
+{
+    match signed::up_to(h.processor, 63) {
+        Natural::Of(_) => 4,
+        Natural::Outside => 3,
+    }
+}
+
+// "then 9, .. 10", of data that are good.
 pub(crate) fn with_values(h: Head, values: Data) -> Line
-    ensures { λ r. ⌜ ((fields : Option (List ℕ)) → values ≡ dataOf (h .count) fields → r ≡ listedLine h fields) ⌝ }
+    ensures { λ r. ⌜ ((fields : Option (List ℕ)) → Values.Good values ≡ dataOf (h .count) fields → r ≡ listedLine h fields) ⌝ }
 {
     let Natural::Of(processor) = place_of(h.processor, h.process) else {
-        return Line::Refused(Fault::Place);
+        return Line::Refused(Fault::Place, Spot::Field(misplaced(h)));
     };
-    with_data(h, processor, parts::part_of(h.kind, h.event), values)
+    let part = parts::part_of(h.kind, h.event);
+    with_role(h, processor, values, role_of(part, values))
+}
+
+// "then 9, data (5)", of data that are bad, missing or too many at a field.
+fn without_values(h: Head, k: usize) -> Line
+    ensures { λ r. ⌜ ((fields : Option (List ℕ)) → Values.Bad k ≡ dataOf (h .count) fields → r ≡ listedLine h fields) ⌝ }
+{
+    match place_of(h.processor, h.process) {
+        Natural::Of(_) => Line::Refused(Fault::Form, Spot::Field(k)),
+        Natural::Outside => Line::Refused(Fault::Place, Spot::Field(misplaced(h))),
+    }
 }
 
 pub(crate) fn listed_line(l: &[u8], h: Head, next: usize) -> Line
     ensures { λ r. ⌜ r ≡ listedLine h (restAt (now (l .entry)) next) ⌝ }
 {
-    with_values(h, values::read(l, next, h.count))
+    match values::read(l, next, h.count) {
+        Values::Good(values) => with_values(h, values),
+        Values::Bad(k) => without_values(h, k),
+    }
 }

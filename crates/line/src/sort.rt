@@ -1,5 +1,6 @@
 // "Next the record type (7 or passed over), event not handled (8), event type (7 or passed over)".
 ghost use mathlib.Core.Path.{_≡_};
+ghost use Rattle.paper.specs.Line as paper;
 ghost use Rattle.paper.specs.Line.{goodEnd, stepOver, unlisted, begun, six};
 ghost use Rattle.field.specs.Cursor.{restAt};
 ghost use Rattle.line.specs.Sorting.{standingIn};
@@ -8,6 +9,7 @@ use paper::Choice;
 use paper::Fault;
 use paper::Head;
 use paper::Line;
+use paper::Spot;
 use paper::Standing;
 
 // "with a data count above zero a space and at least one more byte must follow, otherwise LF"
@@ -20,11 +22,21 @@ fn good_end(l: &[u8], next: usize, count: usize) -> bool
     next < l.len()
 }
 
-pub(crate) fn step_over(choice: Choice) -> Line
-    ensures { λ r. ⌜ r ≡ stepOver choice ⌝ }
+// The field that makes a line unlisted: the record type, which is looked at first, or else the event type.
+fn unknown(h: Head) -> usize
+    ensures { λ r. ⌜ r ≡ paper.unknown h ⌝ }
+{
+    if parts::listed_kind(h.kind) {
+        return 1;
+    }
+    0
+}
+
+pub(crate) fn step_over(choice: Choice, h: Head) -> Line
+    ensures { λ r. ⌜ r ≡ stepOver choice h ⌝ }
 {
     match choice {
-        Choice::Strict => Line::Refused(Fault::Unlisted),
+        Choice::Strict => Line::Refused(Fault::Unlisted, Spot::Field(unknown(h))),
         Choice::Lenient => Line::Passed,
     }
 }
@@ -34,9 +46,9 @@ fn over(choice: Choice, l: &[u8], h: Head, next: usize) -> Line
     ensures { λ r. ⌜ r ≡ unlisted choice h (restAt (now (l .entry)) next) ⌝ }
 {
     if good_end(l, next, h.count) {
-        return step_over(choice);
+        return step_over(choice, h);
     }
-    Line::Refused(Fault::Form)
+    Line::Refused(Fault::Form, Spot::Field(6))
 }
 
 // An event of a record type that is not listed is not looked at.
@@ -54,7 +66,7 @@ pub(crate) fn sort_line(choice: Choice, l: &[u8], h: Head, next: usize) -> Line
 {
     match standing(h.kind, h.event) {
         Standing::Listed | Standing::Message => listed::listed_line(l, h, next),
-        Standing::NotHandled => Line::Refused(Fault::NotHandled),
+        Standing::NotHandled => Line::Refused(Fault::NotHandled, Spot::Field(1)),
         Standing::Unlisted => over(choice, l, h, next),
     }
 }

@@ -3,7 +3,7 @@ use Prim.Native.Nat.{ℕ, zero, suc, _+_, _≤_, _<_}
 use native.Mathlib.Omega.{arith}
 use native.Mathlib.Decide.{decLt}
 use native.Mathlib.Numerals.{add-one}
-use mathlib.Core.Path.{_≡_, refl, sym, ap, _∙_}
+use mathlib.Core.Path.{_≡_, refl, sym, _∙_}
 use mathlib.Core.Logic.{_⊎_, inl, inr}
 use mathlib.Core.Bool.{Bool, true, false, cond}
 use mathlib.Core.Option.{Option, none, some, Option·some-ne-none, Option·some-injective}
@@ -12,8 +12,10 @@ use borrow.Author.Tests.{leb-true}
 use lib.Dec.{leb}
 use lib.ListN.{length, drop, drop-of-length-le}
 use lib.Seq.{drop-cons}
+use Rattle.paper.specs.Columns.{wholeLine}
 use Rattle.paper.specs.Matching.{entryAt, sendOf, lengthAt, lengthSent, callOf, callFor, onCall, matchedFrom, matchedOf}
 use Rattle.paper.specs.declared.Fault.{Fault}
+use Rattle.paper.specs.declared.Site.{Site}
 use Rattle.paper.specs.declared.Message.{Message}
 use Rattle.paper.specs.declared.Role.the-variants.{Receive}
 use Rattle.paper.specs.declared.Entry.{Entry}
@@ -61,7 +63,7 @@ module _ (es : List Entry) where
   pub no-call-end : NoCall es (length es) → matchedOf es ≡ End
   no-call-end h = passed (length es) (omega arith) h ∙ matched-end (length es) (omega arith)
 
-  pub first-call-at : (i : ℕ) (fault : Fault) → FirstCall es i fault → matchedOf es ≡ At fault (entryAt es i .line)
+  pub first-call-at : (i : ℕ) (fault : Fault) → FirstCall es i fault → matchedOf es ≡ At fault (wholeLine (entryAt es i .line))
   first-call-at i fault f =
       passed i (omega (arith, f .within)) (f .none-before) ∙ matched-step i (f .within) ∙ rw (f .calls)
 
@@ -88,17 +90,17 @@ module _ (es : List Entry) where
       go (inr (i, fault, f)) =
           let at = first-call-at i fault f in let z : _≡_ {A = ℕ} 0 1 = cc in absurd (omega arith)
 
-  pub at-first-call : (fault : Fault) (line : ℕ) → matchedOf es ≡ At fault line
-      → (i : ℕ) × FirstCall es i fault × (entryAt es i .line ≡ line)
-  at-first-call fault line h = go (search (length es) (omega arith))
+  pub at-first-call : (fault : Fault) (site : Site) → matchedOf es ≡ At fault site
+      → (i : ℕ) × FirstCall es i fault × (wholeLine (entryAt es i .line) ≡ site)
+  at-first-call fault site h = go (search (length es) (omega arith))
     where
       go : NoCall es (length es) ⊎ SomeCall es
-          → (i : ℕ) × FirstCall es i fault × (entryAt es i .line ≡ line)
+          → (i : ℕ) × FirstCall es i fault × (wholeLine (entryAt es i .line) ≡ site)
       go (inl quiet) = let end = no-call-end quiet in let z : _≡_ {A = ℕ} 0 1 = cc in absurd (omega arith)
       go (inr (i, fault′, f)) =
-          let at = first-call-at i fault′ f in
+          let there = first-call-at i fault′ f in
           let same : fault′ ≡ fault = cc in
-          let place : entryAt es i .line ≡ line = cc in
+          let place : wholeLine (entryAt es i .line) ≡ site = cc in
           (i, rw same at f, place)
 
   -- ---- a receive that calls for nothing has a send of at least its length

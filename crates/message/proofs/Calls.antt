@@ -6,6 +6,7 @@ use mathlib.Core.Option.{Option, none, some}
 use mathlib.Core.List.{List}
 use borrow.Author.Tests.{le-leb, lt-leb}
 use lib.ListN.{length, getD, drop}
+use Rattle.paper.specs.Columns.{wholeLine}
 use Rattle.paper.specs.Matching.{entryAt, sendOf, callOf, callFor, lengthSent, onCall, matchedFrom}
 use Rattle.paper.specs.declared.Fault.{Fault}
 use Rattle.paper.specs.declared.Fault.the-variants as Fault
@@ -13,6 +14,7 @@ use Rattle.paper.specs.declared.Message.{Message}
 use Rattle.paper.specs.declared.Role.{Role}
 use Rattle.paper.specs.declared.Role.the-variants.{Neither, Send, Receive}
 use Rattle.paper.specs.declared.Entry.{Entry}
+use Rattle.paper.specs.declared.Site.{Site}
 use Rattle.paper.specs.declared.Stop.{Stop}
 use Rattle.paper.specs.declared.Stop.the-variants.{End, At}
 use Rattle.matching.proofs.Calls.{matched-step}
@@ -44,13 +46,13 @@ module _ (l : List ℕ) (n i : ℕ) (m : i < n) {role : Role} (h : role ≡ entr
     low : i < length es
     low = rw (length-entries l n) m
 
-    line-is : {line : ℕ} → line ≡ entryFrom l i .line → entryAt es i .line ≡ line
-    line-is e = ap (λ (d : Entry). d .line) (entry-in l n i m) ∙ sym e
+    site-is : {site : Site} → site ≡ wholeLine (entryFrom l i .line) → wholeLine (entryAt es i .line) ≡ site
+    site-is e = ap (λ (d : Entry). wholeLine (d .line)) (entry-in l n i m) ∙ sym e
 
     -- "receive without a matching send"
-    pub calls-no-send : n ≤ getD sends i 0 → {line : ℕ} → line ≡ entryFrom l i .line → At Fault.NoSend line ≡ stopAt es i
+    pub calls-no-send : n ≤ getD sends i 0 → {site : Site} → site ≡ wholeLine (entryFrom l i .line) → At Fault.NoSend site ≡ stopAt es i
     unfolding stopAt callFor callOf
-    calls-no-send g e = rw (role-is, r, line-is e, has-none es i low (rw (length-entries l n, ← p) g))
+    calls-no-send g e = rw (role-is, r, ← site-is e, has-none es i low (rw (length-entries l n, ← p) g))
 
     module _ (sent : ℕ) (g : getD sends i 0 < n) (q : sent ≡ lengthSent (entryFrom l (getD sends i 0) .body .role)) where
       its-length : lengthSent (entryAt es (getD sends i 0) .body .role) ≡ sent
@@ -60,9 +62,9 @@ module _ (l : List ℕ) (n i : ℕ) (m : i < n) {role : Role} (h : role ≡ entr
       its-send = rw p (has-send es i low (rw (length-entries l n, ← p) g))
 
       -- "exactly if the received length is above the sent one"
-      pub calls-long-receive : sent < x .length → {line : ℕ} → line ≡ entryFrom l i .line → At Fault.LongReceive line ≡ stopAt es i
+      pub calls-long-receive : sent < x .length → {site : Site} → site ≡ wholeLine (entryFrom l i .line) → At Fault.LongReceive site ≡ stopAt es i
       unfolding stopAt callFor callOf
-      calls-long-receive d e = rw (role-is, r, line-is e, its-send, its-length, lt-leb (x .length) sent d)
+      calls-long-receive d e = rw (role-is, r, ← site-is e, its-send, its-length, lt-leb (x .length) sent d)
 
       pub calls-nothing : x .length ≤ sent → End ≡ stopAt es i
       unfolding stopAt callFor callOf
@@ -70,13 +72,13 @@ module _ (l : List ℕ) (n i : ℕ) (m : i < n) {role : Role} (h : role ≡ entr
 
 -- the search for the first call: a turn
 module _ (es : List Entry) (i : ℕ) (m : i < length es) where
-  pub stops : {s : Stop} {fault : Fault} {line : ℕ} → s ≡ stopAt es i → s ≡ At fault line
-      → matchedFrom es i (drop i es) ≡ At fault line
+  pub stops : {s : Stop} {fault : Fault} {site : Site} → s ≡ stopAt es i → s ≡ At fault site
+      → matchedFrom es i (drop i es) ≡ At fault site
   unfolding stopAt
-  stops {s} {fault} {line} e f = matched-step es i m ∙ called (callFor es i (entryAt es i .body .role)) (sym e ∙ f)
+  stops {s} {fault} {site} e f = matched-step es i m ∙ called (callFor es i (entryAt es i .body .role)) (sym e ∙ f)
     where
-      called : (o : Option Fault) → onCall o (entryAt es i .line) End ≡ At fault line
-          → onCall o (entryAt es i .line) (matchedFrom es (i + 1) (drop (i + 1) es)) ≡ At fault line
+      called : (o : Option Fault) → onCall o (entryAt es i .line) End ≡ At fault site
+          → onCall o (entryAt es i .line) (matchedFrom es (i + 1) (drop (i + 1) es)) ≡ At fault site
       called none g = let z : _≡_ {A = ℕ} 0 1 = cc in absurd (omega arith)
       called (some x) g = g
 

@@ -8,6 +8,7 @@ use lib.ListN.{length}
 use Rattle.paper.specs.Matching.{matchedOf, matchedCount, unreceivedCount}
 use Rattle.paper.specs.declared.Fault.{Fault}
 use Rattle.paper.specs.declared.Entry.{Entry}
+use Rattle.paper.specs.declared.Site.{Site}
 use Rattle.paper.specs.declared.Stop.{Stop}
 use Rattle.paper.specs.declared.Stop.the-variants.{End, At}
 use Rattle.store.specs.Layout.{capacity, entriesIn}
@@ -20,7 +21,7 @@ use Rattle.message.specs.Outcome.{Outcome, answerOf, fitting, matching}
 -- ---- the answer
 
 module _ (es : List Entry) {s : Stop} (e : s ≡ matchedOf es) where
-  pub refuses : {fault : Fault} {line : ℕ} → s ≡ At fault line → Refused fault line ≡ answerOf es
+  pub refuses : {fault : Fault} {site : Site} → s ≡ At fault site → Refused fault site ≡ answerOf es
   unfolding answerOf
   refuses f = rw (← e, f)
 

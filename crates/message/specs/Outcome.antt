@@ -22,7 +22,7 @@ abbrev pub outcome : Matching → (sends link : List ℕ) → Outcome
 outcome answer sends link = record { answer = answer; sends = sends; link = link }
 
 abbrev pub answerFor : List Entry → Stop → Matching
-answerFor es (At fault line) = Refused fault line
+answerFor es (At fault site) = Refused fault site
 answerFor es End = Matched (matchedCount es) (unreceivedCount es)
 
 unfoldable pub answerOf : List Entry → Matching

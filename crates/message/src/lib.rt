@@ -4,17 +4,18 @@ ghost use mathlib.Core.Path.{_≡_};
 ghost use Prim.Native.Nat.{_<_};
 ghost use lib.ListN.{length};
 ghost use Rattle.paper.specs.Matching.{lengthSent, matchedOf, isSend, isReceive, matchedCount, unreceivedCount};
-ghost use Rattle.store.specs.Layout.{entryFrom, entriesIn};
+ghost use Rattle.store.specs.Layout.{entriesIn};
 ghost use Rattle.chains.specs.Places.{placesOf};
 ghost use Rattle.message.specs.Outcome.{outcome, matching, answerOf, stopAt, one};
 use paper::Fault;
 use paper::Role;
+use paper::Site;
 use paper::Stop;
 
 pub enum Matching {
     // how many messages matched, and how many sends were not received
     Matched(usize, usize),
-    Refused(Fault, usize),
+    Refused(Fault, Site),
     // what was lent does not fit: `fitting`, specs/Outcome.antt
     Misfit,
 }
@@ -44,11 +45,11 @@ fn call_at(store: &[u32], sends: &[u32], i: usize) -> Stop
             let received = m.length;
             let s = sends[i] as usize;
             if sends.len() <= s {
-                return Stop::At(Fault::NoSend, store::line_at(store, i));
+                return Stop::At(Fault::NoSend, store::site_at(store, i));
             }
             let sent = length_sent(store::role_at(store, s));
             if sent < received {
-                return Stop::At(Fault::LongReceive, store::line_at(store, i));
+                return Stop::At(Fault::LongReceive, store::site_at(store, i));
             }
             Stop::End
         }
@@ -63,8 +64,8 @@ fn first_call(store: &[u32], sends: &[u32]) -> Stop
     let mut i: usize = 0;
     while i < sends.len() {
         let stop = call_at(store, sends, i);
-        if let Stop::At(fault, line) = stop {
-            return Stop::At(fault, line);
+        if let Stop::At(fault, site) = stop {
+            return Stop::At(fault, site);
         }
         i += 1;
     }
@@ -116,8 +117,8 @@ fn answered(store: &[u32], sends: &[u32]) -> Matching
     ensures { λ r. ⌜ r ≡ answerOf (entriesIn (now (store .entry)) (length (now (sends .entry)))) ⌝ }
 {
     let stop = first_call(store, sends);
-    if let Stop::At(fault, line) = stop {
-        return Matching::Refused(fault, line);
+    if let Stop::At(fault, site) = stop {
+        return Matching::Refused(fault, site);
     }
     counted(store, sends.len())
 }

@@ -8,6 +8,7 @@ use lib.ListN.{length, drop}
 use lib.IntN.{ℤ}
 use lib.Dec.{ltb, leb, eqb}
 use Rattle.paper.specs.Numbers.{numberOf}
+use Rattle.paper.specs.Columns.{nowhere}
 use Rattle.paper.specs.Reading.{Reading, linesOf, readOf}
 use Rattle.paper.specs.Levels.{levelsOf}
 use Rattle.paper.specs.Matching.{matchedOf, matchedCount, unreceivedCount, waitsOf}
@@ -18,6 +19,7 @@ use Rattle.paper.specs.declared.Choice.{Choice}
 use Rattle.paper.specs.declared.Choice.the-variants.{Strict, Lenient}
 use Rattle.paper.specs.declared.Fault.{Fault}
 use Rattle.paper.specs.declared.Fault.the-variants as Fault
+use Rattle.paper.specs.declared.Site.{Site}
 use Rattle.paper.specs.declared.Stop.{Stop}
 use Rattle.paper.specs.declared.Stop.the-variants.{End, At}
 use Rattle.paper.specs.declared.Answer.{Answer}
@@ -68,38 +70,38 @@ pub record Found : Type 0 where
   pub times : List ℤ
 
 pub data Reached : Type 0 where
-  stopped : (fault : Fault) (line : ℕ) → Reached
+  stopped : (fault : Fault) (site : Site) → Reached
   found : Found → Reached
 
 -- "then 15"
 unfoldable pub onSettled : Choice → Reading → Settled → Reached
-onSettled choice r impossible = stopped Fault.NoTimes 0
+onSettled choice r impossible = stopped Fault.NoTimes nowhere
 onSettled choice r (settled rounds times) = found (record { choice = choice; reading = r; rounds = rounds; times = times })
 
 -- "then the first receive in file order that calls for 13 or 14"
 unfoldable pub onMatched : Given → Choice → Reading → Stop → Reached
-onMatched g choice r (At fault line) = stopped fault line
+onMatched g choice r (At fault site) = stopped fault site
 onMatched g choice r End = onSettled choice r (settle (waitsOf (g .latencies) (r .entries)))
 
 -- "After the lines are read, and before 13, refuse with 17"
 unfoldable pub onLevels : Given → Choice → Reading → Stop → Reached
-onLevels g choice r (At fault line) = stopped fault line
+onLevels g choice r (At fault site) = stopped fault site
 onLevels g choice r End = onMatched g choice r (matchedOf (r .entries))
 
 -- "then line by line, the first bad line deciding"
 unfoldable pub onRead : Given → Choice → Reading → Stop → Reached
-onRead g choice r (At fault line) = stopped fault line
+onRead g choice r (At fault site) = stopped fault site
 onRead g choice r End = onLevels g choice r (levelsOf (g .asked) (r .entries))
 
 -- "1 to 4"
 unfoldable pub onChoice : Given → Option Choice → Reached
-onChoice g none = stopped Fault.BadChoice 0
+onChoice g none = stopped Fault.BadChoice nowhere
 onChoice g (some choice) =
     let reading = readOf choice (most g) (g .trace) in
     let read = onRead g choice reading (reading .stop) in
     cond (rightLengths g)
-    (cond (lowLatencies (g .latencies)) (cond (leb (length (g .trace)) longest) read (stopped Fault.LongTrace 0)) (stopped Fault.HighLatency 0))
-    (stopped Fault.WrongLength 0)
+    (cond (lowLatencies (g .latencies)) (cond (leb (length (g .trace)) longest) read (stopped Fault.LongTrace nowhere)) (stopped Fault.HighLatency nowhere))
+    (stopped Fault.WrongLength nowhere)
 
 -- the refusals up to 15, or the times
 unfoldable pub reach : Given → Reached
@@ -126,12 +128,13 @@ abbrev pub given : Inputs → Given
 given i = record { trace = i .trace; latencies = i .latencies; asked = i .asked; places = length (i .times) }
 
 -- "Every refusal returns its number and line, verdict 0 and all counts 0, and leaves times and output room untouched."
-unfoldable pub refused : Inputs → Fault → ℕ → Outcome
-refused i fault line =
+unfoldable pub refused : Inputs → Fault → Site → Outcome
+refused i fault site =
     record {
       answer = record {
         number = numberOf fault;
-        line = line;
+        line = site .line;
+        column = site .column;
         verdict = 0;
         listed = 0;
         passed = 0;
@@ -164,6 +167,7 @@ accepted i f written =
       answer = record {
         number = 0;
         line = 0;
+        column = 0;
         verdict = verdictOf (matchedCount es) (not (same (f .times) (originals (waitsOf (i .latencies) es))));
         listed = length es;
         passed = f .reading .state .passed;
@@ -184,11 +188,11 @@ written i choice times = cond (i .wanted) (writtenFrom choice (linesOf (i .trace
 
 -- "then 16"
 unfoldable pub onWritten : Inputs → Found → List ℕ → Outcome
-onWritten i f bytes = cond (ltb (length (i .room)) (length bytes)) (refused i Fault.NoRoom 0) (accepted i f bytes)
+onWritten i f bytes = cond (ltb (length (i .room)) (length bytes)) (refused i Fault.NoRoom nowhere) (accepted i f bytes)
 
 -- what is left to do where a call has come so far
 unfoldable pub conclude : Inputs → Reached → Outcome
-conclude i (stopped fault line) = refused i fault line
+conclude i (stopped fault site) = refused i fault site
 conclude i (found f) = onWritten i f (written i (f .choice) (f .times))
 
 unfoldable pub judge : Inputs → Outcome

@@ -8,10 +8,11 @@ use lib.ListN.{length}
 use lib.IntN.{negsuc}
 use lib.Dec.{eqb}
 use Rattle.paper.specs.Tests.{eqZ}
+use Rattle.paper.specs.Columns.{wholeLine}
 use Rattle.paper.specs.Matching.{entryAt, lastOf, isOn, lastOn}
 use Rattle.paper.specs.declared.Asked.{Asked}
 use Rattle.paper.specs.declared.Data.{Data}
-use Rattle.paper.specs.declared.Data.the-variants.{Malformed, Three, Others}
+use Rattle.paper.specs.declared.Data.the-variants.{Three, Others}
 use Rattle.paper.specs.declared.Entry.{Entry}
 use Rattle.paper.specs.declared.Fault.the-variants as Fault
 use Rattle.paper.specs.declared.Record.{Record}
@@ -22,7 +23,6 @@ use Rattle.paper.specs.declared.Stop.the-variants.{End, At}
 
 -- "with three data under descriptor 2"
 unfoldable pub isThree : Data → Bool
-isThree Malformed = false
 isThree (Three a b c) = true
 isThree Others = false
 
@@ -41,7 +41,6 @@ lastMark es processor i = lastOf (isMark processor) es i
 
 -- "the expected three"
 unfoldable pub expected : Asked → Data → Bool
-expected a Malformed = false
 expected a (Three picl user trace) = eqZ picl (a .picl) && eqZ user (a .user) && eqZ trace (a .trace)
 expected a Others = false
 
@@ -60,7 +59,7 @@ offAt a es processor =
 
 abbrev pub onOff : Option ℕ → Stop → Stop
 onOff none more = more
-onOff (some line) more = At Fault.OtherLevels line
+onOff (some line) more = At Fault.OtherLevels (wholeLine line)
 
 -- "The smallest such processor decides", of n processors from this one on
 unfoldable pub levelsFrom : Asked → List Entry → ℕ → ℕ → Stop

@@ -6,6 +6,7 @@ pub mod Numbers
 pub mod Forms
 pub mod Events
 pub mod Line
+pub mod Columns
 pub mod Reading
 pub mod Levels
 pub mod Matching

@@ -1,4 +1,5 @@
--- Document 01, "One line, one record" and "Within a line": what a line comes to, without its LF. LF is 10 and a space is 32.
+-- Document 01, "One line, one record" and "Within a line": what a line comes to, without its LF. LF is 10 and a space is 32. A refusal
+-- names the field that decides, counted from 0, and the fifth change request asks for the column of that.
 use Prim.Native.Nat.{ℕ, zero, suc}
 use mathlib.Core.List.{List, [], _∷_}
 use mathlib.Core.Bool.{Bool, true, false, cond, _&&_}
@@ -6,7 +7,7 @@ use mathlib.Core.Option.{Option, none, some, Option·map}
 use lib.ListN.{length, take, drop}
 use lib.IntN.{ℤ, pos, natAbs}
 use lib.Signed.{leZ}
-use lib.Dec.{ltb, leb}
+use lib.Dec.{ltb, leb, eqb}
 use Rattle.bytes.specs.Bytes.{indexOf}
 use Rattle.paper.specs.Tests.{eqZ, upTo, minus, oneOf}
 use Rattle.paper.specs.Forms.{wholeOf, timeOf}
@@ -21,13 +22,17 @@ use Rattle.paper.specs.declared.Fault.{Fault}
 use Rattle.paper.specs.declared.Fault.the-variants as Fault
 use Rattle.paper.specs.declared.Head.{Head}
 use Rattle.paper.specs.declared.Data.{Data}
-use Rattle.paper.specs.declared.Data.the-variants.{Malformed, Three, Others}
+use Rattle.paper.specs.declared.Data.the-variants.{Three, Others}
+use Rattle.paper.specs.declared.Values.{Values}
+use Rattle.paper.specs.declared.Values.the-variants as Values
 use Rattle.paper.specs.declared.Part.{Part}
 use Rattle.paper.specs.declared.Part.the-variants as Part
 use Rattle.paper.specs.declared.Role.{Role}
 use Rattle.paper.specs.declared.Role.the-variants.{Neither, Send, Receive}
 use Rattle.paper.specs.declared.Message.{Message}
 use Rattle.paper.specs.declared.Record.{Record}
+use Rattle.paper.specs.declared.Spot.{Spot}
+use Rattle.paper.specs.declared.Spot.the-variants as Spot
 use Rattle.paper.specs.declared.Line.{Line}
 use Rattle.paper.specs.declared.Line.the-variants.{Refused, Passed, Listed}
 
@@ -77,30 +82,30 @@ onFirst (first v fields) bad more = more v fields
 unfoldable pub countOf : List ℕ → Field
 countOf s = onField (wholeOf s) Bad (λ v. cond (upTo 999 v) (Good v) Bad)
 
--- the six fields with what follows them, or the fault
+-- the six fields with what follows them, or the fault and the field that has it, counted from 0
 pub data Begun : Type 0 where
-  bad : Fault → Begun
+  bad : Fault → ℕ → Begun
   six : Head → Option (List ℕ) → Begun
 
 -- the last three: processor, process, number of data fields
 unfoldable pub placeOf : ℤ → ℤ → ℤ → Option (List ℕ) → Begun
 placeOf kind event time fields =
-    onFirst (firstOf wholeOf fields) (bad Fault.Form) (λ processor fields₁.
-    onFirst (firstOf wholeOf fields₁) (bad Fault.Form) (λ process fields₂.
-    onFirst (firstOf countOf fields₂) (bad Fault.Form) (λ count fields₃.
+    onFirst (firstOf wholeOf fields) (bad Fault.Form 3) (λ processor fields₁.
+    onFirst (firstOf wholeOf fields₁) (bad Fault.Form 4) (λ process fields₂.
+    onFirst (firstOf countOf fields₂) (bad Fault.Form 5) (λ count fields₃.
     six (record { kind = kind; event = event; time = time; processor = processor; process = process; count = natAbs count }) fields₃)))
 
 -- all six, left to right: record type, event type, timestamp, and the three above
 unfoldable pub sixOf : Option (List ℕ) → Begun
 sixOf fields =
-    onFirst (firstOf wholeOf fields) (bad Fault.Form) (λ kind fields₁.
-    onFirst (firstOf wholeOf fields₁) (bad Fault.Form) (λ event fields₂.
-    onFirst (firstOf timeOf fields₂) (bad Fault.Stamp) (λ time fields₃.
+    onFirst (firstOf wholeOf fields) (bad Fault.Form 0) (λ kind fields₁.
+    onFirst (firstOf wholeOf fields₁) (bad Fault.Form 1) (λ event fields₂.
+    onFirst (firstOf timeOf fields₂) (bad Fault.Stamp 2) (λ time fields₃.
     placeOf kind event time fields₃)))
 
--- "fewer than six fields (5); the six fields left to right (5 or 6), the data count here as 0 to 999"
+-- "fewer than six fields (5); the six fields left to right (5 or 6), the data count here as 0 to 999": with fewer the sixth is missing
 unfoldable pub headOf : List ℕ → Begun
-headOf l = cond (fieldsAbove 5 l) (sixOf (some l)) (bad Fault.Form)
+headOf l = cond (fieldsAbove 5 l) (sixOf (some l)) (bad Fault.Form 5)
 
 -- ---- an unlisted line
 
@@ -111,59 +116,73 @@ goodEnd zero (some l) = false
 goodEnd (suc n) none = false
 goodEnd (suc n) (some l) = ltb 0 (length l)
 
+-- the field that makes a line unlisted: the record type, which is looked at first, or else the event type
+unfoldable pub unknown : Head → ℕ
+unknown h = cond (listedKind (h .kind)) 1 0
+
 -- "unlisted, under strict", "Lenient passes over it"
-unfoldable pub stepOver : Choice → Line
-stepOver Strict = Refused Fault.Unlisted
-stepOver Lenient = Passed
+unfoldable pub stepOver : Choice → Head → Line
+stepOver Strict h = Refused Fault.Unlisted (Spot.Field (unknown h))
+stepOver Lenient h = Passed
 
 -- "For an unlisted line its end (5) is checked before 7 or passing."
 unfoldable pub unlisted : Choice → Head → Option (List ℕ) → Line
-unlisted choice h fields = cond (goodEnd (h .count) fields) (stepOver choice) (Refused Fault.Form)
+unlisted choice h fields = cond (goodEnd (h .count) fields) (stepOver choice h) (Refused Fault.Form (Spot.Field 6))
 
 -- ---- the data of a listed line
 
-abbrev pub pushed : ℤ → Option (List ℤ) → Option (List ℤ)
-pushed v = Option·map (λ (vs : List ℤ). v ∷ vs)
+-- some numbers, or the field that is bad, missing or too many
+pub data Numbers : Type 0 where
+  wrong : ℕ → Numbers
+  numbers : List ℤ → Numbers
 
--- exactly n fields, each in the form
-unfoldable pub valuesOf : (List ℕ → Field) → ℕ → Option (List ℕ) → Option (List ℤ)
-valuesOf form zero none = some []
-valuesOf form zero (some l) = none
-valuesOf form (suc n) fields = onFirst (firstOf form fields) none (λ v fields₁. pushed v (valuesOf form n fields₁))
+abbrev pub pushed : ℤ → Numbers → Numbers
+pushed v (wrong k) = wrong k
+pushed v (numbers vs) = numbers (v ∷ vs)
+
+-- exactly n fields, each in the form, from field k on
+unfoldable pub valuesOf : (List ℕ → Field) → ℕ → ℕ → Option (List ℕ) → Numbers
+valuesOf form k zero none = numbers []
+valuesOf form k zero (some l) = wrong k
+valuesOf form k (suc n) fields = onFirst (firstOf form fields) (wrong k) (λ v fields₁. pushed v (valuesOf form (suc k) n fields₁))
 
 -- data under descriptor 2
-unfoldable pub asWholes : Option (List ℤ) → Data
-asWholes none = Malformed
-asWholes (some []) = Others
-asWholes (some (a ∷ [])) = Others
-asWholes (some (a ∷ b ∷ [])) = Others
-asWholes (some (a ∷ b ∷ c ∷ [])) = Three a b c
-asWholes (some (a ∷ b ∷ c ∷ d ∷ more)) = Others
+unfoldable pub asWholes : Numbers → Values
+asWholes (wrong k) = Values.Bad k
+asWholes (numbers []) = Values.Good Others
+asWholes (numbers (a ∷ [])) = Values.Good Others
+asWholes (numbers (a ∷ b ∷ [])) = Values.Good Others
+asWholes (numbers (a ∷ b ∷ c ∷ [])) = Values.Good (Three a b c)
+asWholes (numbers (a ∷ b ∷ c ∷ d ∷ more)) = Values.Good Others
 
 -- data under descriptor 5, or none at all
-unfoldable pub asOthers : Option (List ℤ) → Data
-asOthers none = Malformed
-asOthers (some vs) = Others
+unfoldable pub asOthers : Numbers → Values
+asOthers (wrong k) = Values.Bad k
+asOthers (numbers vs) = Values.Good Others
 
 -- "Descriptor in a listed record: 2 (each datum a whole number) or 5 (each datum in the form of a time). The data are exactly as
 -- many as stated."
-unfoldable pub described : ℕ → ℤ → Option (List ℕ) → Data
+unfoldable pub described : ℕ → ℤ → Option (List ℕ) → Values
 described n descriptor fields =
-    cond (eqZ descriptor (pos 2)) (asWholes (valuesOf wholeOf n fields))
-    (cond (eqZ descriptor (pos 5)) (asOthers (valuesOf timeOf n fields)) Malformed)
+    cond (eqZ descriptor (pos 2)) (asWholes (valuesOf wholeOf 7 n fields))
+    (cond (eqZ descriptor (pos 5)) (asOthers (valuesOf timeOf 7 n fields)) (Values.Bad 6))
 
 -- "only if that number is above zero, a descriptor and the data", "in a listed record at most 16"
-unfoldable pub dataOf : ℕ → Option (List ℕ) → Data
-dataOf zero fields = asOthers (valuesOf wholeOf zero fields)
+unfoldable pub dataOf : ℕ → Option (List ℕ) → Values
+dataOf zero fields = asOthers (valuesOf wholeOf 6 zero fields)
 dataOf (suc n) fields =
-    cond (leb (suc n) 16) (onFirst (firstOf wholeOf fields) Malformed (λ descriptor fields₁. described (suc n) descriptor fields₁))
-    Malformed
+    cond (leb (suc n) 16) (onFirst (firstOf wholeOf fields) (Values.Bad 6) (λ descriptor fields₁. described (suc n) descriptor fields₁))
+    (Values.Bad 5)
 
 -- ---- a listed line
 
 -- "processor outside 0 to 63 or process not 0", or else the processor
 unfoldable pub placed : ℤ → ℤ → Option ℕ
 placed processor process = cond (upTo 63 processor && eqZ process (pos 0)) (some (natAbs processor)) none
+
+-- of the two the field that is bad, left to right
+unfoldable pub misplaced : Head → ℕ
+misplaced h = cond (upTo 63 (h .processor)) 4 3
 
 -- "A send is an entry record .. A receive is an exit record", each of its event types
 unfoldable pub partOf : ℤ → ℤ → Part
@@ -175,10 +194,15 @@ partOf kind event =
 -- processor is 0 to 63." "Length, type and processor stand where those tables put them; 10 asks for the number of data given there": the
 -- report's Tables 7 and 8 have all three at the same places of every send and receive, and as many, "4 (3)"
 unfoldable pub messageOf : Data → Option Message
-messageOf Malformed = none
 messageOf (Three length tag peer) =
     cond (leZ (pos 0) length && upTo 63 peer) (some (record { length = natAbs length; tag = tag; peer = natAbs peer })) none
 messageOf Others = none
+
+-- the field that a send or receive without its message lacks: "the data count's if that is wrong, else the descriptor's if it isn't 2, else
+-- the first bad datum's"
+unfoldable pub lacking : Head → Data → ℕ
+lacking h (Three length tag peer) = cond (leZ (pos 0) length) 9 7
+lacking h Others = cond (eqb (h .count) 3) 6 5
 
 -- none for "a send or receive without its three good data"
 unfoldable pub roleOf : Part → Data → Option Role
@@ -192,18 +216,17 @@ recordOf h processor values role =
     record { time = h .time; processor = processor; kind = h .kind; event = h .event; values = values; role = role }
 
 unfoldable pub withRole : Head → ℕ → Data → Option Role → Line
-withRole h processor values none = Refused Fault.NoMessage
+withRole h processor values none = Refused Fault.NoMessage (Spot.Field (lacking h values))
 withRole h processor values (some role) = Listed (recordOf h processor values role)
 
 -- "data (5), 10"
-unfoldable pub withData : Head → ℕ → Part → Data → Line
-withData h processor part Malformed = Refused Fault.Form
-withData h processor part (Three a b c) = withRole h processor (Three a b c) (roleOf part (Three a b c))
-withData h processor part Others = withRole h processor Others (roleOf part Others)
+unfoldable pub withData : Head → ℕ → Part → Values → Line
+withData h processor part (Values.Bad k) = Refused Fault.Form (Spot.Field k)
+withData h processor part (Values.Good values) = withRole h processor values (roleOf part values)
 
 -- "then 9"
 unfoldable pub onPlace : Head → Option (List ℕ) → Option ℕ → Line
-onPlace h fields none = Refused Fault.Place
+onPlace h fields none = Refused Fault.Place (Spot.Field (misplaced h))
 onPlace h fields (some processor) = withData h processor (partOf (h .kind) (h .event)) (dataOf (h .count) fields)
 
 -- "then 9, data (5), 10"
@@ -214,14 +237,14 @@ listedLine h fields = onPlace h fields (placed (h .processor) (h .process))
 
 -- "event not handled (8), event type (7 or passed over)"
 unfoldable pub sorted : Choice → Head → Option (List ℕ) → Standing → Line
-sorted choice h fields Standing.NotHandled = Refused Fault.NotHandled
+sorted choice h fields Standing.NotHandled = Refused Fault.NotHandled (Spot.Field 1)
 sorted choice h fields Standing.Unlisted = unlisted choice h fields
 sorted choice h fields Standing.Message = listedLine h fields
 sorted choice h fields Standing.Listed = listedLine h fields
 
 -- "Next the record type (7 or passed over)"
 unfoldable pub begun : Choice → Begun → Line
-begun choice (bad fault) = Refused fault
+begun choice (bad fault k) = Refused fault (Spot.Field k)
 begun choice (six h fields) =
     cond (listedKind (h .kind)) (sorted choice h fields (standingOf (h .event))) (unlisted choice h fields)
 

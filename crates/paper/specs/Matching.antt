@@ -7,6 +7,7 @@ use lib.ListN.{length, take, getD}
 use lib.IntN.{ℤ, pos}
 use lib.Dec.{eqb, leb}
 use Rattle.paper.specs.Tests.{eqZ}
+use Rattle.paper.specs.Columns.{wholeLine}
 use Rattle.paper.specs.Clock.{Waits}
 use Rattle.paper.specs.declared.Fault.{Fault}
 use Rattle.paper.specs.declared.Fault.the-variants as Fault
@@ -104,7 +105,7 @@ callFor es i (Receive m) = callOf es (m .length) (sendOf es i)
 
 abbrev pub onCall : Option Fault → ℕ → Stop → Stop
 onCall none line more = more
-onCall (some fault) line more = At fault line
+onCall (some fault) line more = At fault (wholeLine line)
 
 -- "the first receive in file order that calls for 13 or 14", among the entries from place i on
 unfoldable pub matchedFrom : List Entry → ℕ → List Entry → Stop

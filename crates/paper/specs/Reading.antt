@@ -1,12 +1,13 @@
 -- Document 01, "line by line, the first bad line deciding": a trace as its lines, and the state over them.
-use Prim.Native.Nat.{ℕ, suc, _+_}
+use Prim.Native.Nat.{ℕ, _+_}
 use mathlib.Core.List.{List, [], _∷_}
-use mathlib.Core.Bool.{Bool, true, false, cond}
-use lib.ListN.{length, getD, set, replicate}
+use mathlib.Core.Bool.{cond}
+use lib.ListN.{getD, set, replicate}
 use lib.IntN.{ℤ, pos, negsuc}
 use lib.Signed.{ltZ}
 use lib.Dec.{leb, eqb}
 use Rattle.paper.specs.Line.{lineOf}
+use Rattle.paper.specs.Columns.{pastEnd, columnIn, inLine}
 use Rattle.paper.specs.declared.Choice.{Choice}
 use Rattle.paper.specs.declared.Fault.{Fault}
 use Rattle.paper.specs.declared.Fault.the-variants as Fault
@@ -14,6 +15,7 @@ use Rattle.paper.specs.declared.Record.{Record}
 use Rattle.paper.specs.declared.Entry.{Entry}
 use Rattle.paper.specs.declared.Line.{Line}
 use Rattle.paper.specs.declared.Line.the-variants.{Refused, Passed, Listed}
+use Rattle.paper.specs.declared.Spot.the-variants.{Whole}
 use Rattle.paper.specs.declared.Stop.{Stop}
 use Rattle.paper.specs.declared.Stop.the-variants.{End, At}
 
@@ -49,11 +51,11 @@ start = record { last = replicate 64 (negsuc 999999999999998); listed = 0; passe
 
 -- "11, 12", with room for `most` listed records
 unfoldable pub checked : ℕ → State → Line → Line
-checked most st (Refused fault) = Refused fault
+checked most st (Refused fault spot) = Refused fault spot
 checked most st Passed = Passed
 checked most st (Listed r) =
-    cond (ltZ (r .time) (getD (st .last) (r .processor) (pos 0))) (Refused Fault.Backwards)
-    (cond (leb most (st .listed)) (Refused Fault.TooMany) (Listed r))
+    cond (ltZ (r .time) (getD (st .last) (r .processor) (pos 0))) (Refused Fault.Backwards Whole)
+    (cond (leb most (st .listed)) (Refused Fault.TooMany Whole) (Listed r))
 
 -- one entry replaced at each listed line
 unfoldable pub withListed : State → Record → State
@@ -73,17 +75,20 @@ pub record Reading : Type 0 where
 abbrev pub withEntry : Entry → Reading → Reading
 withEntry e r = record { stop = r .stop; entries = e ∷ r .entries; state = r .state }
 
+abbrev pub stopsAt : Fault → ℕ → ℕ → State → Reading
+stopsAt fault n column st = record { stop = At fault (inLine n column); entries = []; state = st }
+
 -- the reading from line n on, a line checked and the lines after it read from a state
-unfoldable pub onLine : ℕ → State → Line → (State → Reading) → Reading
-onLine n st (Refused fault) more = record { stop = At fault n; entries = []; state = st }
-onLine n st Passed more = more (withPassed st)
-onLine n st (Listed r) more = withEntry (record { line = n; body = r }) (more (withListed st r))
+unfoldable pub onLine : ℕ → List ℕ → State → Line → (State → Reading) → Reading
+onLine n l st (Refused fault spot) more = stopsAt fault n (columnIn l spot) st
+onLine n l st Passed more = more (withPassed st)
+onLine n l st (Listed r) more = withEntry (record { line = n; body = r }) (more (withListed st r))
 
 unfoldable pub readFrom : Choice → ℕ → Lines → ℕ → State → Reading
 readFrom choice most done n st = record { stop = End; entries = []; state = st }
-readFrom choice most (unended l) n st = record { stop = At Fault.Form n; entries = []; state = st }
+readFrom choice most (unended l) n st = stopsAt Fault.Form n (pastEnd l) st
 readFrom choice most (ended l more) n st =
-    onLine n st (checked most st (lineOf choice l)) (λ st₁. readFrom choice most more (n + 1) st₁)
+    onLine n l st (checked most st (lineOf choice l)) (λ st₁. readFrom choice most more (n + 1) st₁)
 
 -- "Lines count from 1."
 unfoldable pub readOf : Choice → ℕ → List ℕ → Reading

@@ -15,7 +15,7 @@ withStamp s l = field l ++ (32 ∷ field (after l) ++ (32 ∷ s ++ (32 ∷ after
 
 -- a line written, and then the lines after it with the times that are left: each listed line takes one time
 unfoldable pub writeLine : Line → List ℕ → List ℤ → (List ℤ → List ℕ) → List ℕ
-writeLine (Refused fault) l times more = l ++ (10 ∷ more times)
+writeLine (Refused fault spot) l times more = l ++ (10 ∷ more times)
 writeLine Passed l times more = l ++ (10 ∷ more times)
 writeLine (Listed r) l [] more = l ++ (10 ∷ more [])
 writeLine (Listed r) l (t ∷ times) more = withStamp (timeShown t) l ++ (10 ∷ more times)

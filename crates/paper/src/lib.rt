@@ -69,11 +69,17 @@ pub struct Head {
     pub count: usize,
 }
 
-// The data of a listed record, as far as anything depends on them: badly formed, three whole numbers, or anything else.
+// The data of a listed record, as far as anything depends on them: three whole numbers, or anything else.
 pub enum Data {
-    Malformed,
     Three(i64, i64, i64),
     Others,
+}
+
+// What the fields behind the six read as in a listed record: its data, or the field that is bad, missing or too many. The fields of a
+// line are counted from 0.
+pub enum Values {
+    Good(Data),
+    Bad(usize),
 }
 
 // What a record is by its record type and event type.
@@ -113,17 +119,29 @@ pub struct Entry {
     pub body: Record,
 }
 
+// What decides in a line that is refused: one of its fields, or none of them.
+pub enum Spot {
+    Field(usize),
+    Whole,
+}
+
 // What a line comes to.
 pub enum Line {
-    Refused(Fault),
+    Refused(Fault, Spot),
     Passed,
     Listed(Record),
 }
 
-// Where a reading ends: at the end of what there is, or at the line that is refused.
+// Where a call is refused: the line and the column, both counted from 1, and 0 where none is meant.
+pub struct Site {
+    pub line: usize,
+    pub column: usize,
+}
+
+// Where a reading ends: at the end of what there is, or at the place that is refused.
 pub enum Stop {
     End,
-    At(Fault, usize),
+    At(Fault, Site),
 }
 
 // What the caller gets back, laid out as C has it.
@@ -131,6 +149,7 @@ pub enum Stop {
 pub struct Answer {
     pub number: u64,
     pub line: u64,
+    pub column: u64,
     pub verdict: u64,
     pub listed: u64,
     pub passed: u64,

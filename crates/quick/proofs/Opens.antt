@@ -10,7 +10,7 @@ use Rattle.paper.specs.Line.{first, firstOf, countOf, six, placeOf}
 use Rattle.field.specs.Cursor.{restAt}
 use Rattle.field.proofs.Counts.{count-good}
 use Rattle.field.proofs.Cursors.{at-start}
-use Rattle.fields.proofs.Heads.{good-three}
+use Rattle.fields.proofs.Heads.{good-three, six-head}
 use Rattle.signed.specs.Naturals.{naturalOf}
 use Rattle.signed.specs.declared.Natural.the-variants as Natural
 use Rattle.reading.specs.Places.{lineAt}
@@ -49,5 +49,5 @@ unfolding PlaceAt BeginsAt OpensAt fieldsFrom endFrom
 six-here s at p₁ p₂ p₃ {k = k} a b c x y z (Six h ended next) u =
     let first₀ : firstOf wholeOf (restAt (lineAt s at) 0) ≡ first k (some (lineAt s p₁)) = rw (at-start (lineAt s at)) (x .reads) in
     let whole = good-three (lineAt s at) _ _ first₀ _ _ (y .reads) _ _ (z .reads) a b c in
-    record { reads = sym whole ∙ u .reads; same = x .same ∙ y .same ∙ z .same ∙ u .same; near = u .near }
+    record { reads = six-head (lineAt s at) h _ (sym whole ∙ u .reads); same = x .same ∙ y .same ∙ z .same ∙ u .same; near = u .near }
 six-here s at p₁ p₂ p₃ a b c x y z Doubt u = tt

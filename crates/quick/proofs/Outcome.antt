@@ -10,6 +10,7 @@ use lib.Dec.{eqb}
 use Rattle.bytes.specs.Bytes.{indexOf, indexAfter}
 use Rattle.paper.specs.Line.{six}
 use Rattle.paper.specs.declared.Data.{Data}
+use Rattle.paper.specs.declared.Values.the-variants.{Good}
 use Rattle.paper.specs.declared.Head.{Head}
 use Rattle.reading.specs.Places.{lineAt, nextLine}
 use Rattle.reading.specs.Rests.{fieldsFrom, endFrom}
@@ -54,4 +55,7 @@ one-six s at h g a b n m e f =
 pub one-data : (s : List ℕ) (ended : Bool) (at k : ℕ) (v w : Data) (n m : ℕ) → HoldsAt s ended at k (Holds.Of v n) → HoldsAt s ended at k (Holds.Of w m)
     → Holds.Of v n ≡ Holds.Of w m
 unfolding HoldsAt DataAt
-one-data s ended at k v w n m e f = rw (e .is, f .is, ← e .ends, ← f .ends)
+one-data s ended at k v w n m e f =
+    let both : Good v ≡ Good w = e .is ∙ sym (f .is) in
+    let same : v ≡ w = cc in
+    rw (same, ← e .ends, ← f .ends)

@@ -10,10 +10,12 @@ use lib.IntN.{ℤ}
 use lib.Dec.{eqb}
 use borrow.Author.Tests.{eq-eqb, ne-eqb, eqb-true, eqb-false}
 use Rattle.paper.specs.Forms.{wholeOf}
-use Rattle.paper.specs.Line.{first, firstOf, pushed, valuesOf, asWholes, asOthers, described, dataOf}
+use Rattle.paper.specs.Line.{first, firstOf, Numbers, numbers, pushed, valuesOf, asWholes, asOthers, described, dataOf}
 use Rattle.paper.specs.declared.Field.{Field}
 use Rattle.paper.specs.declared.Data.{Data}
 use Rattle.paper.specs.declared.Data.the-variants.{Three, Others}
+use Rattle.paper.specs.declared.Values.{Values}
+use Rattle.paper.specs.declared.Values.the-variants.{Good}
 use Rattle.field.specs.Cursor.{readAs}
 use Rattle.field.specs.declared.Form.{Form}
 use Rattle.field.specs.declared.Form.the-variants.{Whole, Time}
@@ -25,15 +27,15 @@ use Rattle.quick.specs.declared.Holds.the-variants as Holds
 use Rattle.quick.specs.Lines.{Told, inForm, lastOf, DataAt, HoldsAt}
 
 -- values before those that are still to come
-abbrev prefixed : List ℤ → Option (List ℤ) → Option (List ℤ)
-prefixed [] o = o
-prefixed (v ∷ vs) o = pushed v (prefixed vs o)
+abbrev prefixed : List ℤ → Numbers → Numbers
+prefixed [] x = x
+prefixed (v ∷ vs) x = pushed v (prefixed vs x)
 
-one-more : (vs : List ℤ) (v : ℤ) (o : Option (List ℤ)) → prefixed vs (pushed v o) ≡ prefixed (vs ++ (v ∷ [])) o
-one-more [] v o = refl
-one-more (u ∷ vs) v o = ap (pushed u) (one-more vs v o)
+one-more : (vs : List ℤ) (v : ℤ) (x : Numbers) → prefixed vs (pushed v x) ≡ prefixed (vs ++ (v ∷ [])) x
+one-more [] v x = refl
+one-more (u ∷ vs) v x = ap (pushed u) (one-more vs v x)
 
-no-more : (vs : List ℤ) → prefixed vs (some []) ≡ some vs
+no-more : (vs : List ℤ) → prefixed vs (numbers []) ≡ numbers vs
 no-more [] = refl
 no-more (v ∷ vs) = ap (pushed v) (no-more vs)
 
@@ -57,12 +59,13 @@ last-more vs v h =
       three = λ e. rw (h .two (omega (arith, long)));
     }
 
--- ---- the loop: what was read, and what is left to read
+-- ---- the loop: what was read, and what is left to read, from whatever field on
 
 pub record Taking (form : Form) (n : ℕ) (s : List ℕ) (at : ℕ) (a b c : ℤ) (p left : ℕ) : Type 0 where
   vs : List ℤ
+  k : ℕ
   many : length vs + left ≡ n
-  reads : valuesOf (readAs form) n (some (lineAt s at)) ≡ prefixed vs (valuesOf (readAs form) left (fieldsFrom s (eqb left 0) p))
+  reads : valuesOf (readAs form) 7 n (some (lineAt s at)) ≡ prefixed vs (valuesOf (readAs form) k left (fieldsFrom s (eqb left 0) p))
   same : nextLine s at ≡ endFrom s (eqb left 0) p
   near : at ≤ length s → p ≤ length s
   last : Last vs a b c
@@ -73,10 +76,11 @@ taking-start form n s at h =
     let not-yet = ne-eqb n 0 (λ e. omega arith) in
     record {
       vs = [];
+      k = 7;
       many = omega arith;
       reads = rw not-yet;
       same = rw not-yet;
-      near = λ k. k;
+      near = λ here. here;
       last = record { one = λ e. absurd (omega arith); two = λ e. absurd (omega arith); three = λ e. absurd (omega arith) };
     }
 
@@ -88,11 +92,11 @@ last-test left h = go (eqb left 1) refl
     go true e = eq-eqb (left - 1) 0 (omega (arith, eqb-true left 1 e))
     go false e = ne-eqb (left - 1) 0 (λ z. eqb-false left 1 e (omega arith))
 
-step : (form : List ℕ → Field) (left : ℕ) → 0 < left → (f g : Option (List ℕ)) (v : ℤ) → firstOf form f ≡ first v g
-    → valuesOf form left f ≡ pushed v (valuesOf form (left - 1) g)
+step : (form : List ℕ → Field) (k left : ℕ) → 0 < left → (f g : Option (List ℕ)) (v : ℤ) → firstOf form f ≡ first v g
+    → valuesOf form k left f ≡ pushed v (valuesOf form (suc k) (left - 1) g)
 unfolding valuesOf
-step form zero h f g v e = absurd (omega arith)
-step form (suc left) h f g v e = let k : suc left - 1 ≡ left = omega arith in rw (e, k)
+step form k zero h f g v e = absurd (omega arith)
+step form k (suc left) h f g v e = let one : suc left - 1 ≡ left = omega arith in rw (e, one)
 
 module _ {form : Form} {n : ℕ} {s : List ℕ} {at : ℕ} {a b c : ℤ} {p left : ℕ} (taking : Taking form n s at a b c p left) where
   module _ (h : 0 < left) where
@@ -108,10 +112,11 @@ module _ {form : Form} {n : ℕ} {s : List ℕ} {at : ℕ} {a b c : ℤ} {p left
         let end : nextLine s p ≡ endFrom s (eqb (left - 1) 0) next = rw at-last at (told .same) in
         record {
           vs = taking .vs ++ (v ∷ []);
+          k = suc (taking .k);
           many = rw length-append (omega (arith, taking .many));
-          reads = taking .reads ∙ ap (prefixed (taking .vs)) (rw going (step (readAs form) left h (some (lineAt s p)) _ v read)) ∙ one-more (taking .vs) v _;
+          reads = taking .reads ∙ ap (prefixed (taking .vs)) (rw going (step (readAs form) (taking .k) left h (some (lineAt s p)) _ v read)) ∙ one-more (taking .vs) v _;
           same = taking .same ∙ rw going end;
-          near = λ k. told .near;
+          near = λ here. told .near;
           last = rw e (last-more (taking .vs) v (taking .last));
         }
 
@@ -119,32 +124,32 @@ module _ {form : Form} {n : ℕ} {s : List ℕ} {at : ℕ} {a b c : ℤ} {p left
     gone : left ≡ 0
     gone = omega arith
 
-    all : valuesOf (readAs form) n (some (lineAt s at)) ≡ some (taking .vs)
+    all : valuesOf (readAs form) 7 n (some (lineAt s at)) ≡ numbers (taking .vs)
     unfolding fieldsFrom valuesOf
     all = taking .reads ∙ rw gone (no-more (taking .vs))
 
     -- what is told of them
-    kept : lastOf form n a b c ≡ inForm form n (some (lineAt s at))
+    kept : Good (lastOf form n a b c) ≡ inForm form n (some (lineAt s at))
     unfolding lastOf inForm asWholes asOthers
     kept = go form (eqb n 3) refl all (taking .last) (taking .many)
       where
-        three : (vs : List ℤ) → vs ≡ a ∷ b ∷ c ∷ [] → Three a b c ≡ asWholes (some vs)
+        three : (vs : List ℤ) → vs ≡ a ∷ b ∷ c ∷ [] → Good (Three a b c) ≡ asWholes (numbers vs)
         three vs e = rw e
 
-        go : (form : Form) (t : Bool) → eqb n 3 ≡ t → valuesOf (readAs form) n (some (lineAt s at)) ≡ some (taking .vs) → Last (taking .vs) a b c
-            → length (taking .vs) + left ≡ n → lastOf form n a b c ≡ inForm form n (some (lineAt s at))
+        go : (form : Form) (t : Bool) → eqb n 3 ≡ t → valuesOf (readAs form) 7 n (some (lineAt s at)) ≡ numbers (taking .vs) → Last (taking .vs) a b c
+            → length (taking .vs) + left ≡ n → Good (lastOf form n a b c) ≡ inForm form n (some (lineAt s at))
         go Time t e is last many = rw is
         go Whole true e is last many = rw (e, is) (three (taking .vs) (last .three (omega (arith, eqb-true n 3 e))))
-        go Whole false e is last many = rw (e, ← not-three (readAs Whole) n (some (lineAt s at)) (eqb-false n 3 e), is)
+        go Whole false e is last many = rw (e, ← not-three (readAs Whole) 7 n (some (lineAt s at)) (eqb-false n 3 e), is)
 
-    pub taking-end : {d : Data} → d ≡ lastOf form n a b c → Ended d (inForm form n (fieldsFrom s false at)) s false at p
+    pub taking-end : {d : Data} → d ≡ lastOf form n a b c → Ended (Good d) (inForm form n (fieldsFrom s false at)) s false at p
     unfolding fieldsFrom endFrom
-    taking-end e = record { is = e ∙ kept; ends = taking .same ∙ rw gone; near = taking .near }
+    taking-end e = record { is = ap Good e ∙ kept; ends = taking .same ∙ rw gone; near = taking .near }
 
 -- ---- the descriptor before them
 
 module _ (s : List ℕ) (at : ℕ) where
-  pub as-described : (there : Option (List ℕ) → Data) (inside : Option (List ℕ) → Data) (r : Holds) → ((f : Option (List ℕ)) → inside f ≡ there f)
+  pub as-described : (there inside : Option (List ℕ) → Values) (r : Holds) → ((f : Option (List ℕ)) → inside f ≡ there f)
       → DataAt inside s false at r → DataAt there s false at r
   unfolding DataAt
   as-described there inside (Holds.Of values next) e t = record { is = t .is ∙ e _; ends = t .ends; near = t .near }

@@ -11,6 +11,8 @@ use Rattle.paper.specs.Line.{first, firstOf, countOf, Begun, six, placeOf, head
 use Rattle.paper.specs.declared.Field.{Field}
 use Rattle.paper.specs.declared.Data.{Data}
 use Rattle.paper.specs.declared.Data.the-variants.{Three, Others}
+use Rattle.paper.specs.declared.Values.{Values}
+use Rattle.paper.specs.declared.Values.the-variants.{Good}
 use Rattle.field.specs.Cursor.{readAs}
 use Rattle.field.specs.declared.Form.{Form}
 use Rattle.field.specs.declared.Form.the-variants.{Whole, Time}
@@ -63,17 +65,17 @@ BeginsAt s at = OpensAt (headOf (lineAt s at)) s at
 -- ---- what follows them
 
 -- n values in a form, as the descriptor has them
-unfoldable pub inForm : Form → ℕ → Option (List ℕ) → Data
-inForm Whole n fields = asWholes (valuesOf (readAs Whole) n fields)
-inForm Time n fields = asOthers (valuesOf (readAs Time) n fields)
+unfoldable pub inForm : Form → ℕ → Option (List ℕ) → Values
+inForm Whole n fields = asWholes (valuesOf (readAs Whole) 7 n fields)
+inForm Time n fields = asOthers (valuesOf (readAs Time) 7 n fields)
 
 -- what is kept of them: the last three, where they are all and whole numbers
 unfoldable pub lastOf : Form → ℕ → ℤ → ℤ → ℤ → Data
 lastOf Whole n a b c = cond (eqb n 3) (Three a b c) Others
 lastOf Time n a b c = Others
 
-unfoldable pub DataAt : (Option (List ℕ) → Data) → List ℕ → Bool → ℕ → Holds → Type 0
-DataAt there s ended at (Holds.Of values next) = Ended values (there (fieldsFrom s ended at)) s ended at next
+unfoldable pub DataAt : (Option (List ℕ) → Values) → List ℕ → Bool → ℕ → Holds → Type 0
+DataAt there s ended at (Holds.Of values next) = Ended (Good values) (there (fieldsFrom s ended at)) s ended at next
 DataAt there s ended at Holds.Doubt = Unit
 
 unfoldable pub HoldsAt : List ℕ → Bool → ℕ → ℕ → Holds → Type 0

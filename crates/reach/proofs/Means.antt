@@ -6,6 +6,7 @@ use mathlib.Core.Option.{Option, none, some}
 use native.Mathlib.Omega.{arith}
 use lib.ListN.{length}
 use lib.Dec.{leb}
+use Rattle.paper.specs.Columns.{nowhere}
 use Rattle.paper.specs.Answer.{Given, Found, stopped, found, most, longest, heard, rightLengths, lowLatencies, onSettled, onMatched, onLevels, onRead, onChoice, reach}
 use Rattle.paper.specs.Clock.{Settled, impossible, settled, settle}
 use Rattle.paper.specs.Levels.{levelsOf}
@@ -13,6 +14,7 @@ use Rattle.paper.specs.Matching.{matchedOf, waitsOf}
 use Rattle.paper.specs.Reading.{Reading, readOf}
 use Rattle.paper.specs.declared.Choice.{Choice}
 use Rattle.paper.specs.declared.Fault.{Fault}
+use Rattle.paper.specs.declared.Site.{Site}
 use Rattle.paper.specs.declared.Fault.the-variants as Fault
 use Rattle.paper.specs.declared.Stop.{Stop}
 use Rattle.paper.specs.declared.Stop.the-variants.{End, At}
@@ -27,7 +29,7 @@ pub record Means (g : Given) (f : Found) : Type 0 where
   pub settles : settle (waitsOf (g .latencies) (f .reading .entries)) ≡ settled (f .rounds) (f .times)
 
 -- a stop is no find
-never : {A : Type 0} {fault : Fault} {line : ℕ} {f : Found} → stopped fault line ≡ found f → A
+never : {A : Type 0} {fault : Fault} {site : Site} {f : Found} → stopped fault site ≡ found f → A
 never e = absurd (let z : _≡_ {A = ℕ} 0 1 = cc in omega arith)
 
 module _ (g : Given) (f : Found) where
@@ -45,19 +47,19 @@ module _ (g : Given) (f : Found) where
   module _ (lengths : rightLengths g ≡ true) (choice : Choice) where
     on-matched : r choice .stop ≡ End → levelsOf (g .asked) (r choice .entries) ≡ End → (x : Stop) → matchedOf (r choice .entries) ≡ x → onMatched g choice (r choice) x ≡ found f → Means g f
     unfolding onMatched
-    on-matched whole levels (At fault line) p e = never e
+    on-matched whole levels (At fault site) p e = never e
     on-matched whole levels End p e =
         let (is, settles) = on-settled choice (r choice) (settle (waitsOf (g .latencies) (r choice .entries))) e in
         rw is (record { lengths = lengths; reading = refl; whole = whole; levels = levels; matches = p; settles = settles })
 
     on-levels : r choice .stop ≡ End → (x : Stop) → levelsOf (g .asked) (r choice .entries) ≡ x → onLevels g choice (r choice) x ≡ found f → Means g f
     unfolding onLevels
-    on-levels whole (At fault line) p e = never e
+    on-levels whole (At fault site) p e = never e
     on-levels whole End p e = on-matched whole p (matchedOf (r choice .entries)) refl e
 
     on-read : (x : Stop) → r choice .stop ≡ x → onRead g choice (r choice) x ≡ found f → Means g f
     unfolding onRead
-    on-read (At fault line) p e = never e
+    on-read (At fault site) p e = never e
     on-read End p e = on-levels p (levelsOf (g .asked) (r choice .entries)) refl e
 
   on-choice : (h : Option Choice) → onChoice g h ≡ found f → Means g f
@@ -67,8 +69,8 @@ module _ (g : Given) (f : Found) where
     where
       go : (a b c : Bool) → rightLengths g ≡ a
           → cond a
-          (cond b (cond c (onRead g choice (r choice) (r choice .stop)) (stopped Fault.LongTrace 0)) (stopped Fault.HighLatency 0))
-          (stopped Fault.WrongLength 0)
+          (cond b (cond c (onRead g choice (r choice) (r choice .stop)) (stopped Fault.LongTrace nowhere)) (stopped Fault.HighLatency nowhere))
+          (stopped Fault.WrongLength nowhere)
           ≡ found f → Means g f
       go false b c p e = never e
       go true false c p e = never e

@@ -34,12 +34,12 @@ module _ (trace : List ℕ) (x : paper.Reached) (store store′ sends sends′ :
   one-answer (Times a) (Times b) (f, e, h) (g, d, k) =
       let same : f ≡ g = let z : found f ≡ found g = sym e ∙ d in cc in
       ap Times (sym (counted f h) ∙ ap countsOf same ∙ counted g k)
-  one-answer (Times a) (Refused fault line) (f, e, h) d = let z : found f ≡ stopped fault line = sym e ∙ d in cc
-  one-answer (Refused fault line) (Times b) e (g, d, k) = let z : stopped fault line ≡ found g = sym e ∙ d in cc
-  one-answer (Refused fault line) (Refused other place) e d = let z : stopped fault line ≡ stopped other place = sym e ∙ d in cc
+  one-answer (Times a) (Refused fault site) (f, e, h) d = let z : found f ≡ stopped fault site = sym e ∙ d in cc
+  one-answer (Refused fault site) (Times b) e (g, d, k) = let z : stopped fault site ≡ found g = sym e ∙ d in cc
+  one-answer (Refused fault site) (Refused other place) e d = let z : stopped fault site ≡ stopped other place = sym e ∙ d in cc
   one-answer Misfit q e d = absurd e
   one-answer (Times a) Misfit e d = absurd d
-  one-answer (Refused fault line) Misfit e d = absurd d
+  one-answer (Refused fault site) Misfit e d = absurd d
 
   -- the records, the places of their sends, and their times
   pub one-held : (counts : Counts) → reaches trace x (Times counts) store sends times → reaches trace x (Times counts) store′ sends′ times′

@@ -11,6 +11,7 @@ use Rattle.paper.specs.Reading.{Reading, readOf}
 use Rattle.paper.specs.declared.Asked.{Asked}
 use Rattle.paper.specs.declared.Choice.{Choice}
 use Rattle.paper.specs.declared.Fault.{Fault}
+use Rattle.paper.specs.declared.Site.{Site}
 use Rattle.paper.specs.declared.Stop.{Stop}
 use Rattle.paper.specs.declared.Stop.the-variants.{End, At}
 use Rattle.reading.specs.Starts.{startOf}
@@ -90,7 +91,7 @@ module _ (choice : Choice) (trace store₀ : List ℕ) (r : Read) (store : List 
               new = refl;
             },
           )
-      solved-reaches (Solved.Refused fault line) by = let s = rw entries-are at by in rw s
+      solved-reaches (Solved.Refused fault site) by = let s = rw entries-are at by in rw s
       solved-reaches Solved.Impossible by = let s = rw entries-are at by in rw (s .0, table, s .1)
       solved-reaches Solved.Misfit by = by
 
@@ -104,13 +105,13 @@ module _ (choice : Choice) (trace store₀ : List ℕ) (r : Read) (store : List 
           ap (onRead g choice whole) (sym stop-is) ∙ go (r .stop) ∙ ap (onLevels g choice whole) (sym (rw entries-are at levels))
         where
           go : (s : Stop) → let g = givenOf trace latencies asked places in onRead g choice whole s ≡ onLevels g choice whole (levelled asked (whole .entries) s)
-          go (At fault line) = refl
+          go (At fault site) = refl
           go End = refl
 
-      pub line-refused : (fault : Fault) (line : ℕ) → stop ≡ At fault line → (sends : List ℕ) (times : List ℤ)
-          → fromLines trace latencies asked choice whole (Refused fault line) store sends times
+      pub line-refused : (fault : Fault) (site : Site) → stop ≡ At fault site → (sends : List ℕ) (times : List ℤ)
+          → fromLines trace latencies asked choice whole (Refused fault site) store sends times
       unfolding fromLines reaches onLevels
-      line-refused fault line e sends times places = onward places ∙ rw e
+      line-refused fault site e sends times places = onward places ∙ rw e
 
       pub lines-read : stop ≡ End → {x : Reached} {sends : List ℕ} {times : List ℤ}
           → SettledBy latencies (entriesIn store (r .listed)) (r .listed) (r .passed) x sends times

@@ -6,6 +6,7 @@ use mathlib.Core.List.{List}
 use lib.ListN.{length, take}
 use lib.IntN.{ℤ}
 use Rattle.paper.specs.Answer.{onRead}
+use Rattle.paper.specs.Columns.{nowhere}
 use Rattle.paper.specs.Levels.{levelsOf}
 use Rattle.paper.specs.Reading.{Reading}
 use Rattle.paper.specs.declared.Asked.{Asked}
@@ -38,8 +39,8 @@ pub record Sized (n : ℕ) (sends before latency : List ℕ) (times spare : List
 unfoldable pub asReached : ℕ → ℕ → Solved → Reached
 asReached listed passed (Solved.Times matched unreceived rounds) =
     Times (record { listed = listed; passed = passed; matched = matched; unreceived = unreceived; rounds = rounds })
-asReached listed passed (Solved.Refused fault line) = Refused fault line
-asReached listed passed Solved.Impossible = Refused Fault.NoTimes 0
+asReached listed passed (Solved.Refused fault site) = Refused fault site
+asReached listed passed Solved.Impossible = Refused Fault.NoTimes nowhere
 asReached listed passed Solved.Misfit = Misfit
 
 pub record SettledBy (latencies : List ℕ) (es : List Entry) (listed passed : ℕ) (r : Reached) (sends : List ℕ) (times : List ℤ) : Type 0 where
@@ -51,7 +52,7 @@ pub record SettledBy (latencies : List ℕ) (es : List Entry) (listed passed : �
 
 -- where the lines stop, or else 17
 unfoldable pub levelled : Asked → List Entry → Stop → Stop
-levelled asked es (At fault line) = At fault line
+levelled asked es (At fault site) = At fault site
 levelled asked es End = levelsOf asked es
 
 unfoldable pub fromLines : (trace latencies : List ℕ) → Asked → Choice → Reading → Reached → (store sends : List ℕ) → List ℤ → Type 0

@@ -36,7 +36,7 @@ pub record Held (trace : List ℕ) (f : Found) (counts : Counts) (store sends : 
 -- the answer is how far the paper's call comes
 unfoldable pub reaches : List ℕ → paper.Reached → Reached → (store sends : List ℕ) → List ℤ → Type 0
 reaches trace x (Times counts) store sends times = (f : Found) × (x ≡ found f) × Held trace f counts store sends times
-reaches trace x (Refused fault line) store sends times = x ≡ stopped fault line
+reaches trace x (Refused fault site) store sends times = x ≡ stopped fault site
 reaches trace x Misfit store sends times = ⊥
 
 -- an answer where the slices fit, and none where they do not

@@ -13,11 +13,12 @@ use answer::Counts;
 use clearance::Cleared;
 use paper::Asked;
 use paper::Fault;
+use paper::Site;
 
 pub enum Reached {
     // what was counted; the first places of the slices hold what belongs to the listed records
     Times(Counts),
-    Refused(Fault, usize),
+    Refused(Fault, Site),
     // the slices are not made for as many records as a call may list
     Misfit,
 }
@@ -71,7 +72,7 @@ pub fn reach(
         return Reached::Misfit;
     }
     match clearance::check(trace, latencies, asked, places) {
-        Cleared::Refused(fault) => Reached::Refused(fault, 0),
+        Cleared::Refused(fault) => Reached::Refused(fault, answer::nowhere()),
         Cleared::Under(choice) => {
             lines::read(
                 choice,

@@ -19,8 +19,8 @@ fn told(listed: usize, passed: usize, solved: Solved) -> Reached
     ensures { λ r. ⌜ r ≡ asReached listed passed solved ⌝ }
 {
     match solved {
-        Solved::Refused(fault, line) => Reached::Refused(fault, line),
-        Solved::Impossible => Reached::Refused(Fault::NoTimes, 0),
+        Solved::Refused(fault, site) => Reached::Refused(fault, site),
+        Solved::Impossible => Reached::Refused(Fault::NoTimes, answer::nowhere()),
         // never: each slice has a place for each record that was read
         Solved::Misfit => Reached::Misfit,
         Solved::Times(matched, unreceived, rounds) => Reached::Times(Counts {
@@ -66,7 +66,7 @@ fn check_levels(read: Stop, asked: Asked, store: &[u32], listed: usize) -> Stop
     ensures { λ r. ⌜ r ≡ levelled asked (entriesIn (now (store .entry)) listed) read ⌝ }
 {
     match read {
-        Stop::At(fault, line) => Stop::At(fault, line),
+        Stop::At(fault, site) => Stop::At(fault, site),
         Stop::End => levels::check(store, listed, asked),
     }
 }
@@ -91,7 +91,7 @@ pub(crate) fn read(
     let read = trace::read_trace(choice, trace, store);
     let stop = read.stop;
     match check_levels(stop, asked, store, read.listed) {
-        Stop::At(fault, line) => Reached::Refused(fault, line),
+        Stop::At(fault, site) => Reached::Refused(fault, site),
         Stop::End => settle(
             latencies,
             store,

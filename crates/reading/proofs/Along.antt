@@ -14,6 +14,7 @@ use Rattle.paper.specs.Reading.{Lines, done, unended, ended, State, Reading, wi
 use Rattle.paper.specs.declared.Choice.{Choice}
 use Rattle.paper.specs.declared.Entry.{Entry}
 use Rattle.paper.specs.declared.Fault.the-variants as Fault
+use Rattle.paper.specs.declared.Spot.the-variants.{Whole}
 use Rattle.paper.specs.declared.Line.{Line}
 use Rattle.paper.specs.declared.Line.the-variants.{Refused, Passed, Listed}
 use Rattle.paper.specs.declared.Record.{Record}
@@ -42,12 +43,12 @@ module _ (most : ℕ) (st : State) where
   listed-line : (x : Line) (r : Record) → checked most st x ≡ Listed r
       → (x ≡ Listed r) × (getD (st .last) (r .processor) (pos 0) ≤ℤ r .time) × (st .listed < most)
   unfolding checked
-  listed-line (Refused fault) r e = never (cc)
+  listed-line (Refused fault spot) r e = never (cc)
   listed-line Passed r e = never (cc)
   listed-line (Listed q) r e = go (ltZ (q .time) (getD (st .last) (q .processor) (pos 0))) (leb most (st .listed)) refl refl e
     where
       go : (a b : Bool) → ltZ (q .time) (getD (st .last) (q .processor) (pos 0)) ≡ a → leb most (st .listed) ≡ b
-          → cond a (Refused Fault.Backwards) (cond b (Refused Fault.TooMany) (Listed q)) ≡ Listed r
+          → cond a (Refused Fault.Backwards Whole) (cond b (Refused Fault.TooMany Whole) (Listed q)) ≡ Listed r
           → (Listed q ≡ Listed r) × (getD (st .last) (r .processor) (pos 0) ≤ℤ r .time) × (st .listed < most)
       go true b u v e = never (cc)
       go false true u v e = never (cc)
@@ -58,11 +59,11 @@ module _ (most : ℕ) (st : State) where
 
   passed-line : (x : Line) → checked most st x ≡ Passed → x ≡ Passed
   unfolding checked
-  passed-line (Refused fault) e = e
+  passed-line (Refused fault spot) e = e
   passed-line Passed e = refl
   passed-line (Listed q) e = go (ltZ (q .time) (getD (st .last) (q .processor) (pos 0))) (leb most (st .listed)) e
     where
-      go : (a b : Bool) → cond a (Refused Fault.Backwards) (cond b (Refused Fault.TooMany) (Listed q)) ≡ Passed → Listed q ≡ Passed
+      go : (a b : Bool) → cond a (Refused Fault.Backwards Whole) (cond b (Refused Fault.TooMany Whole) (Listed q)) ≡ Passed → Listed q ≡ Passed
       go true b e = cc
       go false true e = cc
       go false false e = e
@@ -87,9 +88,9 @@ module _ (choice : Choice) (most : ℕ) where
   reads (ended l x) n st e = go (λ st₁. readFrom choice most x (n + 1) st₁) (λ st₁. reads x (n + 1) st₁) (checked most st (lineOf choice l)) refl e
     where
       go : (more : State → Reading) → ((st₁ : State) → more st₁ .stop ≡ End → Reads choice most x (n + 1) st₁ (more st₁ .entries) (more st₁ .state))
-          → (y : Line) → checked most st (lineOf choice l) ≡ y → onLine n st y more .stop ≡ End
-          → Reads choice most (ended l x) n st (onLine n st y more .entries) (onLine n st y more .state)
-      go more f (Refused fault) p e = never (cc)
+          → (y : Line) → checked most st (lineOf choice l) ≡ y → onLine n l st y more .stop ≡ End
+          → Reads choice most (ended l x) n st (onLine n l st y more .entries) (onLine n l st y more .state)
+      go more f (Refused fault spot) p e = never (cc)
       go more f Passed p e = passes (passed-line most st (lineOf choice l) p) (f (withPassed st) e)
       go more f (Listed r) p e = let (q, above, room) = listed-line most st (lineOf choice l) r p in lists q above room (f (withListed st r) e)
 

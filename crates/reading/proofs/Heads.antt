@@ -21,39 +21,39 @@ pub record TidyHead (h : Head) : Type 0 where
   pub event : Whole (h .event)
 
 abbrev pub TidyBegun : Begun → Type 0
-TidyBegun (bad fault) = Unit
+TidyBegun (bad fault k) = Unit
 TidyBegun (six h fields) = TidyHead h
 
 -- a field in a form keeps to what the form does
 module _ (form : List ℕ → Field) (P : ℤ → Type 0) (good : (s : List ℕ) (v : ℤ) → form s ≡ Good v → P v) where
-  on-field : (f : Option (List ℕ)) (fault : Fault) (more : ℤ → Option (List ℕ) → Begun)
-      → ((v : ℤ) (g : Option (List ℕ)) → P v → TidyBegun (more v g)) → TidyBegun (onFirst (firstOf form f) (bad fault) more)
+  on-field : (f : Option (List ℕ)) (fault : Fault) (k : ℕ) (more : ℤ → Option (List ℕ) → Begun)
+      → ((v : ℤ) (g : Option (List ℕ)) → P v → TidyBegun (more v g)) → TidyBegun (onFirst (firstOf form f) (bad fault k) more)
   unfolding firstOf
-  on-field none fault more h = tt
-  on-field (some l) fault more h = go (form (field l)) refl
+  on-field none fault k more h = tt
+  on-field (some l) fault k more h = go (form (field l)) refl
     where
-      go : (x : Field) → form (field l) ≡ x → TidyBegun (onFirst (onField x nothing (λ v. first v (rest l))) (bad fault) more)
+      go : (x : Field) → form (field l) ≡ x → TidyBegun (onFirst (onField x nothing (λ v. first v (rest l))) (bad fault k) more)
       go (Good v) e = h v (rest l) (good (field l) v e)
       go Bad e = tt
 
-on-first : (f : First) (more : ℤ → Option (List ℕ) → Begun) → ((v : ℤ) (g : Option (List ℕ)) → TidyBegun (more v g)) → TidyBegun (onFirst f (bad Fault.Form) more)
-on-first nothing more h = tt
-on-first (first v g) more h = h v g
+on-first : (k : ℕ) (f : First) (more : ℤ → Option (List ℕ) → Begun) → ((v : ℤ) (g : Option (List ℕ)) → TidyBegun (more v g)) → TidyBegun (onFirst f (bad Fault.Form k) more)
+on-first k nothing more h = tt
+on-first k (first v g) more h = h v g
 
 tidy-six : (f : Option (List ℕ)) → TidyBegun (sixOf f)
 unfolding sixOf placeOf
 tidy-six f =
-    on-field wholeOf Whole whole-in-range f Fault.Form _ (λ kind f k.
-    on-field wholeOf Whole whole-in-range f Fault.Form _ (λ event f e.
-    on-field timeOf InRange time-in-range f Fault.Stamp _ (λ time f t.
-    on-first (firstOf wholeOf f) _ (λ processor f.
-    on-first (firstOf wholeOf f) _ (λ process f.
-    on-first (firstOf countOf f) _ (λ count f. record { time = t; kind = k; event = e }))))))
+    on-field wholeOf Whole whole-in-range f Fault.Form 0 _ (λ kind f k.
+    on-field wholeOf Whole whole-in-range f Fault.Form 1 _ (λ event f e.
+    on-field timeOf InRange time-in-range f Fault.Stamp 2 _ (λ time f t.
+    on-first 3 (firstOf wholeOf f) _ (λ processor f.
+    on-first 4 (firstOf wholeOf f) _ (λ process f.
+    on-first 5 (firstOf countOf f) _ (λ count f. record { time = t; kind = k; event = e }))))))
 
 pub tidy-head : (l : List ℕ) → TidyBegun (headOf l)
 unfolding headOf
 tidy-head l = go (fieldsAbove 5 l)
   where
-    go : (b : Bool) → TidyBegun (cond b (sixOf (some l)) (bad Fault.Form))
+    go : (b : Bool) → TidyBegun (cond b (sixOf (some l)) (bad Fault.Form 5))
     go true = tidy-six (some l)
     go false = tt

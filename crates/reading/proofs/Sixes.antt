@@ -14,12 +14,12 @@ use Rattle.reading.proofs.Stamp.{took, rest-on, above}
 -- the six fields read as a to f
 abbrev pub readAs : (a b c d e f : Field) → Option (List ℕ) → Begun
 readAs a b c d e f fields =
-    onField a (bad Fault.Form) (λ kind.
-    onField b (bad Fault.Form) (λ event.
-    onField c (bad Fault.Stamp) (λ time.
-    onField d (bad Fault.Form) (λ processor.
-    onField e (bad Fault.Form) (λ process.
-    onField f (bad Fault.Form) (λ count.
+    onField a (bad Fault.Form 0) (λ kind.
+    onField b (bad Fault.Form 1) (λ event.
+    onField c (bad Fault.Stamp 2) (λ time.
+    onField d (bad Fault.Form 3) (λ processor.
+    onField e (bad Fault.Form 4) (λ process.
+    onField f (bad Fault.Form 5) (λ count.
     six (record { kind = kind; event = event; time = time; processor = processor; process = process; count = natAbs count }) fields))))))
 
 -- what follows k fields

@@ -7,13 +7,15 @@ use mathlib.Core.Option.{Option, none, some}
 use lib.IntN.{ℤ}
 use Rattle.paper.specs.Forms.{wholeOf, timeOf}
 use Rattle.paper.specs.Events.{listedKind, standingOf}
-use Rattle.paper.specs.Line.{field, after, goesOn, rest, fieldsAbove, First, nothing, first, onField, onFirst, firstOf, Begun, bad, six, placeOf, sixOf, headOf, dataOf, placed, partOf, withRole, withData, onPlace, listedLine, goodEnd, stepOver, unlisted, sorted, begun, lineOf}
+use Rattle.paper.specs.Line.{field, after, goesOn, rest, fieldsAbove, First, nothing, first, onField, onFirst, firstOf, Begun, bad, six, placeOf, sixOf, headOf, dataOf, placed, misplaced, partOf, lacking, withRole, withData, onPlace, listedLine, goodEnd, unknown, stepOver, unlisted, sorted, begun, lineOf}
 use Rattle.paper.specs.Written.{withStamp}
 use Rattle.paper.specs.declared.Choice.{Choice}
 use Rattle.paper.specs.declared.Choice.the-variants as Choice
 use Rattle.paper.specs.declared.Head.{Head}
 use Rattle.paper.specs.declared.Data.{Data}
-use Rattle.paper.specs.declared.Data.the-variants.{Malformed, Three, Others}
+use Rattle.paper.specs.declared.Data.the-variants.{Three, Others}
+use Rattle.paper.specs.declared.Values.{Values}
+use Rattle.paper.specs.declared.Values.the-variants as Values
 use Rattle.paper.specs.declared.Part.{Part}
 use Rattle.paper.specs.declared.Role.{Role}
 use Rattle.paper.specs.declared.Record.{Record}
@@ -23,6 +25,7 @@ use Rattle.paper.specs.declared.Standing.{Standing}
 use Rattle.paper.specs.declared.Standing.the-variants as Standing
 use Rattle.paper.specs.declared.Fault.{Fault}
 use Rattle.paper.specs.declared.Fault.the-variants as Fault
+use Rattle.paper.specs.declared.Spot.the-variants as Spot
 use Rattle.paper.specs.declared.Line.the-variants.{Refused, Listed}
 use Rattle.forms.specs.Free.{Free}
 use Rattle.forms.proofs.Tests.{both, never}
@@ -31,19 +34,23 @@ use Rattle.reading.proofs.Fields.{field-of, after-of, goes-on, field-fr
 
 -- ---- what stands behind the six fields does not look at the time
 
+lacks-at : (t : ℤ) (h : Head) (d : Data) → lacking (headAt t h) d ≡ lacking h d
+unfolding lacking
+lacks-at t h (Three length tag peer) = refl
+lacks-at t h Others = refl
+
 role-at : (t : ℤ) (h : Head) (p : ℕ) (d : Data) (o : Option Role) → withRole (headAt t h) p d o ≡ lineAt t (withRole h p d o)
 unfolding withRole lineAt
-role-at t h p d none = refl
+role-at t h p d none = ap (λ k. Refused Fault.NoMessage (Spot.Field k)) (lacks-at t h d)
 role-at t h p d (some role) = refl
 
-data-at : (t : ℤ) (h : Head) (p : ℕ) (part : Part) (d : Data) → withData (headAt t h) p part d ≡ lineAt t (withData h p part d)
+data-at : (t : ℤ) (h : Head) (p : ℕ) (part : Part) (d : Values) → withData (headAt t h) p part d ≡ lineAt t (withData h p part d)
 unfolding withData lineAt
-data-at t h p part Malformed = refl
-data-at t h p part (Three a b c) = role-at t h p (Three a b c) _
-data-at t h p part Others = role-at t h p Others _
+data-at t h p part (Values.Bad k) = refl
+data-at t h p part (Values.Good values) = role-at t h p values _
 
 place-at : (t : ℤ) (h : Head) (fields : Option (List ℕ)) (o : Option ℕ) → onPlace (headAt t h) fields o ≡ lineAt t (onPlace h fields o)
-unfolding onPlace lineAt
+unfolding onPlace misplaced lineAt
 place-at t h fields none = refl
 place-at t h fields (some p) = data-at t h p (partOf (h .kind) (h .event)) (dataOf (h .count) fields)
 
@@ -51,17 +58,18 @@ listed-at : (t : ℤ) (h : Head) (fields : Option (List ℕ)) → listedLine (he
 unfolding listedLine
 listed-at t h fields = place-at t h fields (placed (h .processor) (h .process))
 
-over-at : (t : ℤ) (choice : Choice) → stepOver choice ≡ lineAt t (stepOver choice)
-unfolding stepOver lineAt
-over-at t Choice.Strict = refl
-over-at t Choice.Lenient = refl
+over-at : (t : ℤ) (choice : Choice) (h : Head) → stepOver choice (headAt t h) ≡ lineAt t (stepOver choice h)
+unfolding stepOver unknown lineAt
+over-at t Choice.Strict h = refl
+over-at t Choice.Lenient h = refl
 
 unlisted-at : (t : ℤ) (choice : Choice) (h : Head) (fields : Option (List ℕ)) → unlisted choice (headAt t h) fields ≡ lineAt t (unlisted choice h fields)
 unfolding unlisted lineAt
 unlisted-at t choice h fields = go (goodEnd (h .count) fields)
   where
-    go : (b : Bool) → cond b (stepOver choice) (Refused Fault.Form) ≡ lineAt t (cond b (stepOver choice) (Refused Fault.Form))
-    go true = over-at t choice
+    go : (b : Bool)
+        → cond b (stepOver choice (headAt t h)) (Refused Fault.Form (Spot.Field 6)) ≡ lineAt t (cond b (stepOver choice h) (Refused Fault.Form (Spot.Field 6)))
+    go true = over-at t choice h
     go false = refl
 
 sorted-at : (t : ℤ) (choice : Choice) (h : Head) (fields : Option (List ℕ)) (s : Standing) → sorted choice (headAt t h) fields s ≡ lineAt t (sorted choice h fields s)
@@ -73,7 +81,7 @@ sorted-at t choice h fields Standing.Listed = listed-at t h fields
 
 pub begun-at : (t : ℤ) (choice : Choice) (x : Begun) → begun choice (begunAt t x) ≡ lineAt t (begun choice x)
 unfolding begun begunAt lineAt
-begun-at t choice (bad fault) = refl
+begun-at t choice (bad fault k) = refl
 begun-at t choice (six h fields) = go (listedKind (h .kind))
   where
     go : (b : Bool)
@@ -94,11 +102,11 @@ took form l none-taken more = go (form (field l))
     go (Good v) = refl
     go Bad = refl
 
-at-first : (t : ℤ) (fault : Fault) (f : First) (more : ℤ → Option (List ℕ) → Begun)
-    → begunAt t (onFirst f (bad fault) more) ≡ onFirst f (bad fault) (λ v fields. begunAt t (more v fields))
+at-first : (t : ℤ) (fault : Fault) (k : ℕ) (f : First) (more : ℤ → Option (List ℕ) → Begun)
+    → begunAt t (onFirst f (bad fault k) more) ≡ onFirst f (bad fault k) (λ v fields. begunAt t (more v fields))
 unfolding begunAt
-at-first t fault nothing more = refl
-at-first t fault (first v fields) more = refl
+at-first t fault k nothing more = refl
+at-first t fault k (first v fields) more = refl
 
 -- the last three fields do not look at the time
 behind-at : (t k e t₀ : ℤ) (fields : Option (List ℕ)) → placeOf k e t fields ≡ begunAt t (placeOf k e t₀ fields)
@@ -112,7 +120,7 @@ rest-on l g = rw g
 -- the first three fields, where each has a space after it, read as a, b and c
 opened : (a b c : Field) → Option (List ℕ) → Begun
 opened a b c fields =
-    onField a (bad Fault.Form) (λ k. onField b (bad Fault.Form) (λ e. onField c (bad Fault.Stamp) (λ t. placeOf k e t fields)))
+    onField a (bad Fault.Form 0) (λ k. onField b (bad Fault.Form 1) (λ e. onField c (bad Fault.Stamp 2) (λ t. placeOf k e t fields)))
 
 sixes : (l : List ℕ) → goesOn l ≡ true → goesOn (after l) ≡ true → goesOn (after (after l)) ≡ true
     → sixOf (some l) ≡ opened (wholeOf (field l)) (wholeOf (field (after l))) (timeOf (field (after (after l)))) (some (after (after (after l))))
@@ -136,7 +144,7 @@ pub has-six : (l : List ℕ) (h : Head) (fields : Option (List ℕ)) → headOf 
 unfolding headOf
 has-six l h fields e = go (fieldsAbove 5 l) refl e
   where
-    go : (b : Bool) → fieldsAbove 5 l ≡ b → cond b (sixOf (some l)) (bad Fault.Form) ≡ six h fields → (fieldsAbove 5 l ≡ true) × (sixOf (some l) ≡ six h fields)
+    go : (b : Bool) → fieldsAbove 5 l ≡ b → cond b (sixOf (some l)) (bad Fault.Form 5) ≡ six h fields → (fieldsAbove 5 l ≡ true) × (sixOf (some l) ≡ six h fields)
     go true p e = (p, e)
     go false p e = (cc, cc)
 
@@ -216,7 +224,7 @@ module _ (l s : List ℕ) (t : ℤ) (good : timeOf s ≡ Good t) (free : Free 32
   listed-stamped choice r e = go (headOf l) refl e
     where
       go : (x : Begun) → headOf l ≡ x → begun choice x ≡ Listed r → lineOf choice (withStamp s l) ≡ Listed (recordAt t r)
-      go (bad fault) p e = cc
+      go (bad fault k) p e = cc
       go (six h fields) p e = let q : lineOf choice l ≡ Listed r = rw p e in line-stamped choice h fields p ∙ ap (lineAt t) q
 
 -- ---- the stamp of a listed line
@@ -257,7 +265,7 @@ unfolding lineOf begun begunAt lineAt
 timed-line choice l r e = go (headOf l) refl e
   where
     go : (x : Begun) → headOf l ≡ x → begun choice x ≡ Listed r → Timed l (r .time)
-    go (bad fault) p e = never (cc)
+    go (bad fault k) p e = never (cc)
     go (six h fields) p e =
         let again : Listed r ≡ Listed (recordAt (h .time) r) = sym e ∙ begun-at (h .time) choice (six h fields) ∙ ap (lineAt (h .time)) e in
         let same : r ≡ recordAt (h .time) r = cc in

@@ -12,14 +12,16 @@ use borrow.Author.Tests.{leb-true}
 use Rattle.paper.specs.Tests.{eqZ, upTo}
 use Rattle.paper.specs.Forms.{wholeOf, timeOf}
 use Rattle.paper.specs.Events.{listedKind, standingOf}
-use Rattle.paper.specs.Line.{field, rest, First, nothing, first, onField, onFirst, firstOf, pushed, valuesOf, asWholes, asOthers, described, dataOf, placed, partOf, messageOf, roleOf, recordOf, withRole, withData, onPlace, listedLine, goodEnd, stepOver, unlisted, sorted, Begun, bad, six, begun, headOf, lineOf}
+use Rattle.paper.specs.Line.{field, rest, First, nothing, first, onField, onFirst, firstOf, Numbers, wrong, numbers, pushed, valuesOf, asWholes, asOthers, described, dataOf, placed, partOf, messageOf, roleOf, recordOf, withRole, withData, onPlace, listedLine, goodEnd, stepOver, unlisted, sorted, Begun, bad, six, begun, headOf, lineOf}
 use Rattle.paper.specs.declared.Choice.{Choice}
 use Rattle.paper.specs.declared.Choice.the-variants as Choice
 use Rattle.paper.specs.declared.Head.{Head}
 use Rattle.paper.specs.declared.Field.{Field}
 use Rattle.paper.specs.declared.Field.the-variants.{Good, Bad}
 use Rattle.paper.specs.declared.Data.{Data}
-use Rattle.paper.specs.declared.Data.the-variants.{Malformed, Three, Others}
+use Rattle.paper.specs.declared.Data.the-variants.{Three, Others}
+use Rattle.paper.specs.declared.Values.{Values}
+use Rattle.paper.specs.declared.Values.the-variants as Values
 use Rattle.paper.specs.declared.Part.{Part}
 use Rattle.paper.specs.declared.Part.the-variants as Part
 use Rattle.paper.specs.declared.Message.{Message}
@@ -29,6 +31,7 @@ use Rattle.paper.specs.declared.Record.{Record}
 use Rattle.paper.specs.declared.Fault.the-variants as Fault
 use Rattle.paper.specs.declared.Standing.{Standing}
 use Rattle.paper.specs.declared.Standing.the-variants as Standing
+use Rattle.paper.specs.declared.Spot.the-variants as Spot
 use Rattle.paper.specs.declared.Line.the-variants.{Refused, Listed}
 use Rattle.forms.proofs.Goods.{whole-in-range}
 use Rattle.forms.proofs.Tests.{both, never}
@@ -42,55 +45,59 @@ test P false x y h k = k
 
 -- ---- the data
 
-tidy-others : (o : Option (List ℤ)) → TidyData (asOthers o)
+abbrev TidyValues : Values → Type 0
+TidyValues (Values.Good d) = TidyData d
+TidyValues (Values.Bad k) = Unit
+
+tidy-others : (o : Numbers) → TidyValues (asOthers o)
 unfolding asOthers
-tidy-others none = tt
-tidy-others (some vs) = tt
+tidy-others (wrong k) = tt
+tidy-others (numbers vs) = tt
 
 -- each of the values is a whole number
 abbrev Wholes : List ℤ → Type 0
 Wholes [] = Unit
 Wholes (v ∷ vs) = Whole v × Wholes vs
 
-abbrev AllWhole : Option (List ℤ) → Type 0
-AllWhole none = Unit
-AllWhole (some vs) = Wholes vs
+abbrev AllWhole : Numbers → Type 0
+AllWhole (wrong k) = Unit
+AllWhole (numbers vs) = Wholes vs
 
-whole-pushed : (v : ℤ) (o : Option (List ℤ)) → Whole v → AllWhole o → AllWhole (pushed v o)
-whole-pushed v none h k = tt
-whole-pushed v (some vs) h k = (h, k)
+whole-pushed : (v : ℤ) (o : Numbers) → Whole v → AllWhole o → AllWhole (pushed v o)
+whole-pushed v (wrong k) h w = tt
+whole-pushed v (numbers vs) h w = (h, w)
 
-whole-values : (n : ℕ) (f : Option (List ℕ)) → AllWhole (valuesOf wholeOf n f)
+whole-values : (k n : ℕ) (f : Option (List ℕ)) → AllWhole (valuesOf wholeOf k n f)
 unfolding valuesOf firstOf
-whole-values zero none = tt
-whole-values zero (some l) = tt
-whole-values (suc n) none = tt
-whole-values (suc n) (some l) = go (wholeOf (field l)) refl (whole-values n (rest l))
+whole-values k zero none = tt
+whole-values k zero (some l) = tt
+whole-values k (suc n) none = tt
+whole-values k (suc n) (some l) = go (wholeOf (field l)) refl (whole-values (suc k) n (rest l))
   where
-    go : (x : Field) → wholeOf (field l) ≡ x → AllWhole (valuesOf wholeOf n (rest l))
-        → AllWhole (onFirst (onField x nothing (λ v. first v (rest l))) none (λ v g. pushed v (valuesOf wholeOf n g)))
-    go (Good v) e later = whole-pushed v (valuesOf wholeOf n (rest l)) (whole-in-range (field l) v e) later
+    go : (x : Field) → wholeOf (field l) ≡ x → AllWhole (valuesOf wholeOf (suc k) n (rest l))
+        → AllWhole (onFirst (onField x nothing (λ v. first v (rest l))) (wrong k) (λ v g. pushed v (valuesOf wholeOf (suc k) n g)))
+    go (Good v) e later = whole-pushed v (valuesOf wholeOf (suc k) n (rest l)) (whole-in-range (field l) v e) later
     go Bad e later = tt
 
-tidy-wholes : (o : Option (List ℤ)) → AllWhole o → TidyData (asWholes o)
+tidy-wholes : (o : Numbers) → AllWhole o → TidyValues (asWholes o)
 unfolding asWholes
-tidy-wholes none h = tt
-tidy-wholes (some []) h = tt
-tidy-wholes (some (a ∷ [])) h = tt
-tidy-wholes (some (a ∷ b ∷ [])) h = tt
-tidy-wholes (some (a ∷ b ∷ c ∷ [])) h = (h .0, h .1 .0, h .1 .1 .0)
-tidy-wholes (some (a ∷ b ∷ c ∷ d ∷ more)) h = tt
+tidy-wholes (wrong k) h = tt
+tidy-wholes (numbers []) h = tt
+tidy-wholes (numbers (a ∷ [])) h = tt
+tidy-wholes (numbers (a ∷ b ∷ [])) h = tt
+tidy-wholes (numbers (a ∷ b ∷ c ∷ [])) h = (h .0, h .1 .0, h .1 .1 .0)
+tidy-wholes (numbers (a ∷ b ∷ c ∷ d ∷ more)) h = tt
 
-tidy-data : (n : ℕ) (f : Option (List ℕ)) → TidyData (dataOf n f)
+tidy-data : (n : ℕ) (f : Option (List ℕ)) → TidyValues (dataOf n f)
 unfolding dataOf described
-tidy-data zero f = tidy-others (valuesOf wholeOf zero f)
-tidy-data (suc n) f = test TidyData (leb (suc n) 16) _ Malformed (λ h. go (firstOf wholeOf f)) tt
+tidy-data zero f = tidy-others (valuesOf wholeOf 6 zero f)
+tidy-data (suc n) f = test TidyValues (leb (suc n) 16) _ (Values.Bad 5) (λ h. go (firstOf wholeOf f)) tt
   where
-    go : (x : First) → TidyData (onFirst x Malformed (λ d g. described (suc n) d g))
+    go : (x : First) → TidyValues (onFirst x (Values.Bad 6) (λ d g. described (suc n) d g))
     go nothing = tt
     go (first d g) =
-        test TidyData (eqZ d (pos 2)) _ _ (λ h. tidy-wholes (valuesOf wholeOf (suc n) g) (whole-values (suc n) g))
-        (test TidyData (eqZ d (pos 5)) _ Malformed (λ h. tidy-others (valuesOf timeOf (suc n) g)) tt)
+        test TidyValues (eqZ d (pos 2)) _ _ (λ h. tidy-wholes (valuesOf wholeOf 7 (suc n) g) (whole-values 7 (suc n) g))
+        (test TidyValues (eqZ d (pos 5)) _ (Values.Bad 6) (λ h. tidy-others (valuesOf timeOf 7 (suc n) g)) tt)
 
 -- ---- the message
 
@@ -100,7 +107,6 @@ up-to-below n (negsuc m) e = absurd (let q : _≡_ {A = ℕ} 0 1 = cc in omega a
 
 tidy-message : (d : Data) → TidyData d → (m : Message) → messageOf d ≡ some m → TidyMessage m
 unfolding messageOf
-tidy-message Malformed k m e = never (cc)
 tidy-message Others k m e = never (cc)
 tidy-message (Three a b c) k m e = go (leZ (pos 0) a && upTo 63 c) refl e
   where
@@ -134,11 +140,10 @@ module _ (h : Head) (head : TidyHead h) (p : ℕ) (place : p < 64) where
   tidy-part Part.Receives d k none e = rw e tt
   tidy-part Part.Receives d k (some m) e = rw e (tidy-kept d k (Role.Receive m) (tidy-message d k m e) e)
 
-  tidy-with : (part : Part) (d : Data) → TidyData d → TidyLine (withData h p part d)
+  tidy-with : (part : Part) (d : Values) → TidyValues d → TidyLine (withData h p part d)
   unfolding withData
-  tidy-with part Malformed k = tt
-  tidy-with part (Three a b c) k = tidy-part part (Three a b c) k _ refl
-  tidy-with part Others k = tidy-part part Others k _ refl
+  tidy-with part (Values.Bad k) t = tt
+  tidy-with part (Values.Good values) t = tidy-part part values t _ refl
 
 -- ---- the line
 
@@ -153,14 +158,14 @@ tidy-listed h head f = go (upTo 63 (h .processor) && eqZ (h .process) (pos 0)) r
         (partOf (h .kind) (h .event)) (dataOf (h .count) f) (tidy-data (h .count) f)
     go false e = tt
 
-tidy-over : (choice : Choice) → TidyLine (stepOver choice)
+tidy-over : (choice : Choice) (h : Head) → TidyLine (stepOver choice h)
 unfolding stepOver
-tidy-over Choice.Strict = tt
-tidy-over Choice.Lenient = tt
+tidy-over Choice.Strict h = tt
+tidy-over Choice.Lenient h = tt
 
 tidy-unlisted : (choice : Choice) (h : Head) (f : Option (List ℕ)) → TidyLine (unlisted choice h f)
 unfolding unlisted
-tidy-unlisted choice h f = test TidyLine (goodEnd (h .count) f) (stepOver choice) (Refused Fault.Form) (λ e. tidy-over choice) tt
+tidy-unlisted choice h f = test TidyLine (goodEnd (h .count) f) (stepOver choice h) (Refused Fault.Form (Spot.Field 6)) (λ e. tidy-over choice h) tt
 
 tidy-sorted : (choice : Choice) (h : Head) → TidyHead h → (f : Option (List ℕ)) (s : Standing) → TidyLine (sorted choice h f s)
 unfolding sorted
@@ -171,7 +176,7 @@ tidy-sorted choice h head f Standing.Listed = tidy-listed h head f
 
 tidy-begun : (choice : Choice) (x : Begun) → TidyBegun x → TidyLine (begun choice x)
 unfolding begun
-tidy-begun choice (bad fault) head = tt
+tidy-begun choice (bad fault k) head = tt
 tidy-begun choice (six h f) head =
     test TidyLine (listedKind (h .kind)) (sorted choice h f (standingOf (h .event))) (unlisted choice h f)
     (λ e. tidy-sorted choice h head f (standingOf (h .event))) (tidy-unlisted choice h f)

@@ -31,4 +31,4 @@ behind es r = record { stop = r .stop; entries = es ++ r .entries; state = r .st
 -- a reading, and where it came to its end what is read from its state on
 unfoldable pub resumed : Reading → (State → Reading) → Stop → Reading
 resumed r more End = behind (r .entries) (more (r .state))
-resumed r more (At fault n) = r
+resumed r more (At fault site) = r

@@ -18,7 +18,7 @@ headAt t h =
     }
 
 unfoldable pub begunAt : ℤ → Begun → Begun
-begunAt t (bad fault) = bad fault
+begunAt t (bad fault k) = bad fault k
 begunAt t (six h fields) = six (headAt t h) fields
 
 abbrev pub recordAt : ℤ → Record → Record
@@ -33,6 +33,6 @@ recordAt t r =
     }
 
 unfoldable pub lineAt : ℤ → Line → Line
-lineAt t (Refused fault) = Refused fault
+lineAt t (Refused fault spot) = Refused fault spot
 lineAt t Passed = Passed
 lineAt t (Listed r) = Listed (recordAt t r)

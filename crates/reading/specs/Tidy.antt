@@ -6,7 +6,7 @@ use mathlib.Core.Option.{some}
 use lib.IntN.{ℤ, natAbs}
 use Rattle.paper.specs.Line.{messageOf}
 use Rattle.paper.specs.declared.Data.{Data}
-use Rattle.paper.specs.declared.Data.the-variants.{Malformed, Three, Others}
+use Rattle.paper.specs.declared.Data.the-variants.{Three, Others}
 use Rattle.paper.specs.declared.Message.{Message}
 use Rattle.paper.specs.declared.Role.{Role}
 use Rattle.paper.specs.declared.Role.the-variants.{Neither, Send, Receive}
@@ -32,7 +32,6 @@ TidyRole (Send m) = TidyMessage m
 TidyRole (Receive m) = TidyMessage m
 
 abbrev pub TidyData : Data → Type 0
-TidyData Malformed = Unit
 TidyData (Three a b c) = Whole a × Whole b × Whole c
 TidyData Others = Unit
 
@@ -52,6 +51,6 @@ pub record TidyRecord (r : Record) : Type 0 where
   pub says : Says (r .role) (r .values)
 
 abbrev pub TidyLine : Line → Type 0
-TidyLine (Refused fault) = Unit
+TidyLine (Refused fault spot) = Unit
 TidyLine Passed = Unit
 TidyLine (Listed r) = TidyRecord r

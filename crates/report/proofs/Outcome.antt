@@ -28,7 +28,7 @@ pub one-told : {told : Told} {room : List ℕ} {r q : ℕ} {a b : List ℕ} → 
 one-told x y = one-put (x .put) (y .put)
 
 module _ {answer : Answer} {room : List ℕ} {end : ℕ} {after : List ℕ} where
-  pub refused : (answer .number ≡ 0 → ⊥) → Put room 0 (refusedShown (answer .number) (answer .line)) end after → Reported answer room end after
+  pub refused : (answer .number ≡ 0 → ⊥) → Put room 0 (refusedShown (answer .number) (answer .line) (answer .column)) end after → Reported answer room end after
   unfolding reportOf
   refused h p = record { put = rw (ne-eqb (answer .number) 0 h) p; counts = counted p }
 

@@ -1,10 +1,10 @@
--- The refusal that document 01 writes out. Its whole report, P1's, stands under the one claim in crate samples.
+-- The refusal that the fifth change request writes out. Document 01's whole report, P1's, stands under the one claim in crate samples.
 use mathlib.Core.Path.{_≡_, refl}
 use Rattle.paper.specs.Text.{bytesOf}
 use Rattle.paper.specs.Forms.{placesFrom}
-use Rattle.report.specs.Report.{shown, numbered, twoNumbers, refusedShown}
+use Rattle.report.specs.Report.{shown, named, numbered, refusedShown}
 
--- "as "refused 7 line 25""
-pub table-20 : refusedShown 7 25 ≡ bytesOf "refused 7 line 25\n"
-unfolding refusedShown twoNumbers numbered shown placesFrom bytesOf
-table-20 = refl
+-- "The report line becomes "refused 5 line 812 column 31""
+pub refusal : refusedShown 5 812 31 ≡ bytesOf "refused 5 line 812 column 31\n"
+unfolding refusedShown numbered named shown placesFrom bytesOf
+refusal = refl

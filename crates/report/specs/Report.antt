@@ -14,13 +14,13 @@ use Rattle.report.specs.Put.{Put}
 unfoldable pub shown : ℕ → List ℕ
 shown n = digits 10 (placesFrom 19 n) n
 
--- a word and a number, to the end of the line
-unfoldable pub numbered : List ℕ → ℕ → List ℕ
-numbered word n = word ++ (shown n ++ bytesOf "\n")
+-- a word and a number
+unfoldable pub named : List ℕ → ℕ → List ℕ
+named word n = word ++ shown n
 
--- a number between two words, and then another to the end of the line
-unfoldable pub twoNumbers : List ℕ → ℕ → List ℕ → ℕ → List ℕ
-twoNumbers word n between m = word ++ (shown n ++ numbered between m)
+-- the same to the end of the line
+unfoldable pub numbered : List ℕ → ℕ → List ℕ
+numbered word n = named word n ++ bytesOf "\n"
 
 unfoldable pub verdictShown : ℕ → List ℕ
 verdictShown verdict =
@@ -37,12 +37,13 @@ acceptedShown a =
     ++ (numbered (bytesOf "unreceived ") (a .unreceived)
     ++ numbered (bytesOf "rounds ") (a .rounds)))))
 
--- "for a refusal one line, as "refused 7 line 25""
-unfoldable pub refusedShown : ℕ → ℕ → List ℕ
-refusedShown number line = twoNumbers (bytesOf "refused ") number (bytesOf " line ") line
+-- "for a refusal one line", which the fifth change request makes "refused 5 line 812 column 31"
+unfoldable pub refusedShown : ℕ → ℕ → ℕ → List ℕ
+refusedShown number line column =
+    named (bytesOf "refused ") number ++ (named (bytesOf " line ") line ++ numbered (bytesOf " column ") column)
 
 unfoldable pub reportOf : Answer → List ℕ
-reportOf a = cond (eqb (a .number) 0) (acceptedShown a) (refusedShown (a .number) (a .line))
+reportOf a = cond (eqb (a .number) 0) (acceptedShown a) (refusedShown (a .number) (a .line) (a .column))
 
 -- ---- the statement of `report`: the report at the room's start, the rest as it was. That its length counts within the room
 -- follows from this, and is said for those who lend that part.

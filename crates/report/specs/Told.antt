@@ -1,17 +1,17 @@
 -- All that the program says which makes a table of latencies, as bytes. The lines that it has in common with the other are that one's.
 use Prim.Native.Nat.{ℕ}
-use mathlib.Core.List.{List}
+use mathlib.Core.List.{List, _++_}
 use Rattle.io.specs.Counts.{Counts}
 use Rattle.paper.specs.Text.{bytesOf}
 use Rattle.report.specs.Put.{Put}
-use Rattle.report.specs.Report.{numbered, twoNumbers}
+use Rattle.report.specs.Report.{named, numbered}
 use Rattle.report.specs.Said.{saidShown}
 use Rattle.report.specs.declared.Said.the-variants as Said
 use Rattle.report.specs.declared.Told.{Told}
 use Rattle.report.specs.declared.Told.the-variants.{Written, BadLine, Uncovered, TooLong, CannotRead, CannotWrite, TooMany}
 
 unfoldable pub pairShown : ℕ → ℕ → List ℕ
-pairShown sender receiver = twoNumbers (bytesOf "refused pair ") sender (bytesOf " ") receiver
+pairShown sender receiver = named (bytesOf "refused pair ") sender ++ numbered (bytesOf " ") receiver
 
 unfoldable pub toldShown : Told → List ℕ
 toldShown Written = bytesOf "table written\n"

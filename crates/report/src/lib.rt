@@ -33,7 +33,7 @@ pub fn report(answer: Answer, room: &mut [u8; 256]) -> usize
 {
     let number = answer.number;
     if number != 0 {
-        return put::put_refused(room, number, answer.line);
+        return put::put_refused(room, number, answer.line, answer.column);
     }
     put::put_accepted(room, answer)
 }

@@ -1,7 +1,7 @@
 // The report's lines, put into a room one behind the other.
 ghost use Prim.Native.Nat.{_+_, _≤_};
 ghost use lib.ListN.{length};
-ghost use Rattle.report.specs.Report.{shown, numbered, twoNumbers, verdictShown, refusedShown, acceptedShown};
+ghost use Rattle.report.specs.Report.{shown, named, numbered, verdictShown, refusedShown, acceptedShown};
 ghost use Rattle.report.specs.Told.{pairShown};
 ghost use Rattle.report.specs.Put.{Put, Short};
 use paper::Answer;
@@ -23,14 +23,21 @@ fn put_number(room: &mut [u8], at: usize, n: u64) -> usize
     put_word(room, at, &digits[..k])
 }
 
+fn put_named(room: &mut [u8], at: usize, word: &[u8], n: u64) -> usize
+    requires { ⌜ at + length (now word) + 20 ≤ length (now room) ⌝ }
+    ensures { λ r. ⌜ Short (length (now (word .entry)) + 20) (now (room .entry)) at (named (now (word .entry)) n) r (now (room .exit)) ⌝ }
+{
+    let a = put_word(room, at, word);
+    put_number(room, a, n)
+}
+
 // A word and a number, to the end of the line.
 pub(crate) fn put_numbered(room: &mut [u8], at: usize, word: &[u8], n: u64) -> usize
     requires { ⌜ at + length (now word) + 21 ≤ length (now room) ⌝ }
     ensures { λ r. ⌜ Short (length (now (word .entry)) + 21) (now (room .entry)) at (numbered (now (word .entry)) n) r (now (room .exit)) ⌝ }
 {
-    let a = put_word(room, at, word);
-    let b = put_number(room, a, n);
-    put_word(room, b, b"\n")
+    let a = put_named(room, at, word, n);
+    put_word(room, a, b"\n")
 }
 
 fn put_verdict(room: &mut [u8], verdict: u64) -> usize
@@ -44,28 +51,21 @@ fn put_verdict(room: &mut [u8], verdict: u64) -> usize
     }
 }
 
-// A number between two words, and then another to the end of the line.
-fn put_two(room: &mut [u8], word: &[u8], n: u64, between: &[u8], m: u64) -> usize
-    requires { ⌜ length (now word) + length (now between) + 41 ≤ length (now room) ⌝ }
-    ensures { λ r. ⌜ Put (now (room .entry)) 0 (twoNumbers (now (word .entry)) n (now (between .entry)) m) r (now (room .exit)) ⌝ }
+pub(crate) fn put_refused(room: &mut [u8], number: u64, line: u64, column: u64) -> usize
+    requires { ⌜ 83 ≤ length (now room) ⌝ }
+    ensures { λ r. ⌜ Put (now (room .entry)) 0 (refusedShown number line column) r (now (room .exit)) ⌝ }
 {
-    let a = put_word(room, 0, word);
-    let b = put_number(room, a, n);
-    put_numbered(room, b, between, m)
-}
-
-pub(crate) fn put_refused(room: &mut [u8], number: u64, line: u64) -> usize
-    requires { ⌜ 55 ≤ length (now room) ⌝ }
-    ensures { λ r. ⌜ Put (now (room .entry)) 0 (refusedShown number line) r (now (room .exit)) ⌝ }
-{
-    put_two(room, b"refused ", number, b" line ", line)
+    let a = put_named(room, 0, b"refused ", number);
+    let b = put_named(room, a, b" line ", line);
+    put_numbered(room, b, b" column ", column)
 }
 
 pub(crate) fn put_pair(room: &mut [u8], sender: u64, receiver: u64) -> usize
     requires { ⌜ 55 ≤ length (now room) ⌝ }
     ensures { λ r. ⌜ Put (now (room .entry)) 0 (pairShown sender receiver) r (now (room .exit)) ⌝ }
 {
-    put_two(room, b"refused pair ", sender, b" ", receiver)
+    let a = put_named(room, 0, b"refused pair ", sender);
+    put_numbered(room, a, b" ", receiver)
 }
 
 pub(crate) fn put_accepted(room: &mut [u8], answer: Answer) -> usize

@@ -1,6 +1,6 @@
 -- Document 01, "Sample traces": those marked P, each a call from the trace's bytes with its whole outcome and the program's whole
 -- report of it; and in the same way what the first change request and its reading say of the tracing levels, the second of messages
--- that are posted and finish later, and the fourth of receives that take fewer bytes than were sent.
+-- that are posted and finish later, the fourth of receives that take fewer bytes than were sent, and the fifth of columns.
 use Prim.Native.Nat.{ℕ, _+_, _*_}
 use Prim.Native.String.{String}
 use mathlib.Core.Path.{_≡_}
@@ -123,12 +123,13 @@ expecting levels trace =
 
 -- ---- the outcomes
 
-abbrev refusal : ℕ → ℕ → Outcome
-refusal number line =
+abbrev refusal : ℕ → ℕ → ℕ → Outcome
+refusal number line column =
     record {
       answer = record {
         number = number;
         line = line;
+        column = column;
         verdict = 0;
         listed = 0;
         passed = 0;
@@ -147,6 +148,7 @@ answer verdict matched rounds times =
       answer = record {
         number = 0;
         line = 0;
+        column = 0;
         verdict = verdict;
         listed = length times;
         passed = 0;
@@ -168,6 +170,11 @@ pub record Sample : Type 0 where
 -- "The program's whole report, header and all"
 abbrev report : (verdict listed matched rounds : String) → List String
 report verdict listed matched rounds = verdict ∷ listed ∷ "passed 0\n" ∷ matched ∷ "unreceived 0\n" ∷ rounds ∷ []
+
+-- a trace of these bytes, which is refused in its first line
+abbrev badLine : String → ℕ → ℕ → String → Sample
+badLine text number column shows =
+    record { call = given (bytesOf text) (everywhere 0) 1; comes = refusal number 1 column; shows = shows ∷ [] }
 
 -- ---- the list
 
@@ -194,8 +201,8 @@ samples =
     -- P4: "line 4 removed: 13 at line 4"
     ∷ record {
       call = given (joined (take 3 traceA ++ drop 4 traceA)) (everywhere 5) 1;
-      comes = refusal 13 4;
-      shows = "refused 13 line 4\n" ∷ [];
+      comes = refusal 13 4 0;
+      shows = "refused 13 line 4 column 0\n" ∷ [];
     }
     -- P5: "empty trace: verdict 3, all counts 0"
     ∷ record {
@@ -212,14 +219,14 @@ samples =
     -- P7: "trace B with latency 1 from 0 to 1 only: 15"
     ∷ record {
       call = given (joined traceB) (set (everywhere 0) (64 * 0 + 1) 1) 1;
-      comes = refusal 15 0;
-      shows = "refused 15 line 0\n" ∷ [];
+      comes = refusal 15 0 0;
+      shows = "refused 15 line 0 column 0\n" ∷ [];
     }
     -- P8: "time "-0.000000" is 6"
     ∷ record {
       call = given (bytesOf "0 0 -0.000000 0 0 0\n") (everywhere 0) 1;
-      comes = refusal 6 1;
-      shows = "refused 6 line 1\n" ∷ [];
+      comes = refusal 6 1 5;
+      shows = "refused 6 line 1 column 5\n" ∷ [];
     }
     -- P9: ""-0.000001" means -1"
     ∷ record {
@@ -228,7 +235,7 @@ samples =
       shows = report "verdict nothing to judge\n" "listed 1\n" "matched 0\n" "rounds 0\n";
     }
     -- P10: "choice 3 is 1"
-    ∷ record { call = given (joined traceA) (everywhere 5) 3; comes = refusal 1 0; shows = "refused 1 line 0\n" ∷ [] }
+    ∷ record { call = given (joined traceA) (everywhere 5) 3; comes = refusal 1 0 0; shows = "refused 1 line 0 column 0\n" ∷ [] }
     -- request 1: "Only a -904 mark with three data under descriptor 2 counts": one with "the expected three"
     ∷ record {
       call = expecting 1 (goodMark ∷ []);
@@ -236,9 +243,9 @@ samples =
       shows = report "verdict nothing to judge\n" "listed 1\n" "matched 0\n" "rounds 0\n";
     }
     -- "refuse with 17 if a processor with listed records has no such mark"
-    ∷ record { call = expecting 1 (entry0 ∷ []); comes = refusal 17 1; shows = "refused 17 line 1\n" ∷ [] }
+    ∷ record { call = expecting 1 (entry0 ∷ []); comes = refusal 17 1 0; shows = "refused 17 line 1 column 0\n" ∷ [] }
     -- "or its last one differs from the expected three"
-    ∷ record { call = expecting 1 (goodMark ∷ badMark ∷ []); comes = refusal 17 2; shows = "refused 17 line 2\n" ∷ [] }
+    ∷ record { call = expecting 1 (goodMark ∷ badMark ∷ []); comes = refusal 17 2 0; shows = "refused 17 line 2 column 0\n" ∷ [] }
     -- ""its last one" is the processor's last mark that counts": one without data behind it is as if it were not there
     ∷ record {
       call = expecting 1 (goodMark ∷ "-2 -904 0.000000 0 0 0\n" ∷ []);
@@ -248,23 +255,23 @@ samples =
     -- "The smallest such processor decides; the line is that of its last listed record."
     ∷ record {
       call = expecting 1 (goodMark ∷ badMark ∷ entry0 ∷ entry1 ∷ []);
-      comes = refusal 17 3;
-      shows = "refused 17 line 3\n" ∷ [];
+      comes = refusal 17 3 0;
+      shows = "refused 17 line 3 column 0\n" ∷ [];
     }
     -- "Entry, exit and user-data records of -904 do not count."
     ∷ record {
       call = expecting 1 ("-3 -904 0.000000 0 0 3 2 1 1 1\n" ∷ []);
-      comes = refusal 17 1;
-      shows = "refused 17 line 1\n" ∷ [];
+      comes = refusal 17 1 0;
+      shows = "refused 17 line 1 column 0\n" ∷ [];
     }
     -- "17 comes before an earlier-standing 13": a receive at line 1 that has no send
     ∷ record {
       call = expecting 1 (take 1 (drop 2 traceA) ++ (entry0 ∷ []));
-      comes = refusal 17 2;
-      shows = "refused 17 line 2\n" ∷ [];
+      comes = refusal 17 2 0;
+      shows = "refused 17 line 2 column 0\n" ∷ [];
     }
     -- "and after every bad line": here an empty one
-    ∷ record { call = expecting 1 (entry0 ∷ "\n" ∷ []); comes = refusal 5 2; shows = "refused 5 line 2\n" ∷ [] }
+    ∷ record { call = expecting 1 (entry0 ∷ "\n" ∷ []); comes = refusal 5 2 1; shows = "refused 5 line 2 column 1\n" ∷ [] }
     -- "An empty trace has no processor with listed records: accepted."
     ∷ record {
       call = expecting 1 [];
@@ -278,7 +285,7 @@ samples =
       shows = report "verdict nothing to judge\n" "listed 1\n" "matched 0\n" "rounds 0\n";
     }
     -- "0 for off .. or 1 for on; any other is refusal 1"
-    ∷ record { call = expecting 2 (goodMark ∷ []); comes = refusal 1 0; shows = "refused 1 line 0\n" ∷ [] }
+    ∷ record { call = expecting 2 (goodMark ∷ []); comes = refusal 1 0 0; shows = "refused 1 line 0 column 0\n" ∷ [] }
     -- request 2: "A send is also sendbegin0's entry; a receive is also each exit of recvstatus0 or recvend0 that found it complete": as P1
     ∷ record {
       call = given (joined postedA) (everywhere 5) 1;
@@ -299,20 +306,20 @@ samples =
     -- "Receives count by completion": the second belongs to the send of 8 bytes, although it is the first of its event
     ∷ record {
       call = given (joined twoEvents) (everywhere 0) 1;
-      comes = refusal 14 4;
-      shows = "refused 14 line 4\n" ∷ [];
+      comes = refusal 14 4 0;
+      shows = "refused 14 line 4 column 0\n" ∷ [];
     }
     -- "These types leave refusal 8; all others stay in it": wait0's -56, under lenient too
     ∷ record {
       call = given (bytesOf "-4 -56 0.000000 0 0 3 2 8 1 0\n") (everywhere 0) 2;
-      comes = refusal 8 1;
-      shows = "refused 8 line 1\n" ∷ [];
+      comes = refusal 8 1 4;
+      shows = "refused 8 line 1 column 4\n" ∷ [];
     }
     -- "10 asks for the number of data given there": three, and the report's four are too many
     ∷ record {
       call = given (bytesOf "-3 -27 0.000000 0 0 4 2 8 1 1 0\n") (everywhere 0) 1;
-      comes = refusal 10 1;
-      shows = "refused 10 line 1\n" ∷ [];
+      comes = refusal 10 1 21;
+      shows = "refused 10 line 1 column 21\n" ∷ [];
     }
     -- request 4: "14 is given exactly if the received length is above the sent one": 7 and 0 of 8 bytes are as P1, 9 are not
     ∷ record {
@@ -327,15 +334,50 @@ samples =
     }
     ∷ record {
       call = given (joined (receivedA "-4 -52 0.000009 1 0 3 2 9 1 0\n")) (everywhere 5) 1;
-      comes = refusal 14 3;
-      shows = "refused 14 line 3\n" ∷ [];
+      comes = refusal 14 3 0;
+      shows = "refused 14 line 3 column 0\n" ∷ [];
     }
     -- "Nothing else in matching moves": the first receive belongs to the first send, although the second would fit
     ∷ record {
       call = given (joined otherPairing) (everywhere 0) 1;
-      comes = refusal 14 3;
-      shows = "refused 14 line 3\n" ∷ [];
+      comes = refusal 14 3 0;
+      shows = "refused 14 line 3 column 0\n" ∷ [];
     }
+    -- request 5: "Where a field or LF is missing, the column is one past the line's last byte", whatever else is bad
+    ∷ badLine "-3 0 x 0 0 0" 5 13 "refused 5 line 1 column 13\n"
+    ∷ badLine "x y\n" 5 4 "refused 5 line 1 column 4\n"
+    ∷ badLine "\n" 5 1 "refused 5 line 1 column 1\n"
+    -- an empty field begins where it would stand
+    ∷ badLine "-3 0  0 0 0 0\n" 6 6 "refused 6 line 1 column 6\n"
+    ∷ badLine "-3 0 0.000000 0 0 \n" 5 19 "refused 5 line 1 column 19\n"
+    -- "a field too many is one", and so is the one behind a space at the end, and all that follows the six of an unlisted line
+    ∷ badLine "-3 0 0.000000 0 0 0 2\n" 5 21 "refused 5 line 1 column 21\n"
+    ∷ badLine "-3 0 0.000000 0 0 0 \n" 5 21 "refused 5 line 1 column 21\n"
+    ∷ badLine "-5 0 0.000000 0 0 0 x y\n" 5 21 "refused 5 line 1 column 21\n"
+    -- the descriptor that is missing
+    ∷ badLine "-5 0 0.000000 0 0 1\n" 5 20 "refused 5 line 1 column 20\n"
+    ∷ badLine "-5 0 0.000000 0 0 1 \n" 5 21 "refused 5 line 1 column 21\n"
+    ∷ badLine "-3 0 0.000000 0 0 2\n" 5 20 "refused 5 line 1 column 20\n"
+    -- a count above 16, behind 9 and before all data, and one above 999
+    ∷ badLine "-3 0 0.000000 0 0 17 7\n" 5 19 "refused 5 line 1 column 19\n"
+    ∷ badLine "-3 0 0.000000 64 0 17 7\n" 9 15 "refused 9 line 1 column 15\n"
+    ∷ badLine "-3 0 0.000000 0 0 1000\n" 5 19 "refused 5 line 1 column 19\n"
+    -- "the leftmost fault decides"
+    ∷ badLine "-3 0 0.000000 0 0 2 3\n" 5 21 "refused 5 line 1 column 21\n"
+    ∷ badLine "-3 0 0.000000 0 0 2 2 x\n" 5 23 "refused 5 line 1 column 23\n"
+    ∷ badLine "-3 0 0.000000 0 0 2 2 1 x 3\n" 5 25 "refused 5 line 1 column 25\n"
+    ∷ badLine "-3 0 0.000000 0 0 2 2 1\n" 5 24 "refused 5 line 1 column 24\n"
+    -- the field that makes a line unlisted, not handled or off its place
+    ∷ badLine "-5 -905 0.000000 0 0 0\n" 7 1 "refused 7 line 1 column 1\n"
+    ∷ badLine "-3 -905 0.000000 0 0 0\n" 7 4 "refused 7 line 1 column 4\n"
+    ∷ badLine "-3 -22 0.000000 0 0 0 x\n" 8 4 "refused 8 line 1 column 4\n"
+    ∷ badLine "-3 0 0.000000 64 1 0\n" 9 15 "refused 9 line 1 column 15\n"
+    ∷ badLine "-3 0 0.000000 63 1 0\n" 9 18 "refused 9 line 1 column 18\n"
+    -- "For 10 it is the data count's if that is wrong, else the descriptor's if it isn't 2, else the first bad datum's."
+    ∷ badLine "-3 -21 0.000000 0 0 2 5 0.000000 0.000000\n" 10 21 "refused 10 line 1 column 21\n"
+    ∷ badLine "-3 -21 0.000000 0 0 3 5 0.000000 0.000000 0.000000\n" 10 23 "refused 10 line 1 column 23\n"
+    ∷ badLine "-3 -21 0.000000 0 0 3 2 -1 1 64\n" 10 25 "refused 10 line 1 column 25\n"
+    ∷ badLine "-3 -21 0.000000 0 0 3 2 8 1 64\n" 10 29 "refused 10 line 1 column 29\n"
     ∷ []
 
 -- each comes to what it should, and is reported so

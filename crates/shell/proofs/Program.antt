@@ -4,6 +4,7 @@ use mathlib.Core.Path.{_≡_, sym, _∙_}
 use mathlib.Core.Bool.{Bool, true}
 use mathlib.Core.List.{List}
 use mathlib.Core.Option.{none}
+use Rattle.paper.specs.Columns.{nowhere}
 use Rattle.paper.specs.declared.Answer.{Answer}
 use Rattle.paper.specs.declared.Asked.{Asked}
 use Rattle.paper.specs.declared.Fault.the-variants as Fault
@@ -17,7 +18,7 @@ use Rattle.filed.specs.Filed.{onFiles, ByFiles}
 use Rattle.shell.specs.Program.{levelsOff, onPlan, saidOf}
 
 module _ (count : ℕ) (first : List ℕ) {plan : Plan} (planned : plan ≡ planOf count first) where
-  pub refuses : {answer : Answer} → plan ≡ Plan.BadChoice → answer ≡ refusal Fault.BadChoice 0 → ByFiles (saidOf count first) (Answered answer)
+  pub refuses : {answer : Answer} → plan ≡ Plan.BadChoice → answer ≡ refusal Fault.BadChoice nowhere → ByFiles (saidOf count first) (Answered answer)
   unfolding saidOf onPlan
   refuses e a = record { trace = none; table = none; rest = record { stored = true; says = rw (sym planned ∙ e, a) } }
 

@@ -4,6 +4,7 @@ use mathlib.Core.Bool.{Bool}
 use mathlib.Core.List.{List}
 use mathlib.Core.Option.{Option}
 use lib.IntN.{pos}
+use Rattle.paper.specs.Columns.{nowhere}
 use Rattle.paper.specs.declared.Asked.{Asked}
 use Rattle.paper.specs.declared.Fault.the-variants as Fault
 use Rattle.answer.specs.Answers.{refusal}
@@ -19,7 +20,7 @@ unfoldable pub levelsOff : ℕ → Asked
 levelsOff choice = record { choice = choice; levels = 0; picl = pos 0; user = pos 0; trace = pos 0 }
 
 unfoldable pub onPlan : Plan → (trace table : Option (List ℕ)) (stored : Bool) → Said
-onPlan BadChoice trace table stored = Said.Answered (refusal Fault.BadChoice 0)
+onPlan BadChoice trace table stored = Said.Answered (refusal Fault.BadChoice nowhere)
 onPlan TooMany trace table stored = Said.TooMany
 onPlan Unnamed trace table stored = Said.CannotRead
 onPlan (Judge choice wanted) trace table stored = onFiles (levelsOff choice) wanted trace table stored

@@ -40,7 +40,7 @@ fn performed(count: usize, choice: &[u8], trace: &[u8], table: &[u8], out: &[u8]
     ensures { λ r. ⌜ ByFiles (saidOf count (now (choice .entry))) r ⌝ }
 {
     match arguments::planned(count, choice) {
-        Plan::BadChoice => Said::Answered(answer::refused(Fault::BadChoice, 0)),
+        Plan::BadChoice => Said::Answered(answer::refused_nowhere(Fault::BadChoice)),
         Plan::TooMany => Said::TooMany,
         Plan::Unnamed => Said::CannotRead,
         Plan::Judge(choice, wanted) => {

@@ -11,6 +11,7 @@ use borrow.Author.Tests.{le-leb, lt-leb, lt-ltb, le-ltb, ltb-true, leb-true}
 use Rattle.paper.specs.Matching.{matchedOf, matchedCount, unreceivedCount}
 use Rattle.paper.specs.declared.Entry.{Entry}
 use Rattle.paper.specs.declared.Fault.{Fault}
+use Rattle.paper.specs.declared.Site.{Site}
 use Rattle.paper.specs.declared.Stop.{Stop}
 use Rattle.paper.specs.declared.Stop.the-variants.{End, At}
 use Rattle.store.specs.Layout.{tooMany, capacity, entriesIn}
@@ -107,11 +108,11 @@ module _ (store : List ℕ) (times : List ℤ) {space : ℕ} (holds : space ≡ 
     answer x sends′ times′ by =
         rw fit-is (record { answers = λ z. by; misfits = λ z. absurd (let q : _≡_ {A = ℕ} 0 1 = cc in omega arith) })
 
-    pub out-refused : (fault : Fault) (line : ℕ) → r ≡ Matching.Refused fault line → (times′ : List ℤ) → Into (Refused fault line) places times′
+    pub out-refused : (fault : Fault) (site : Site) → r ≡ Matching.Refused fault site → (times′ : List ℤ) → Into (Refused fault site) places times′
     unfolding solvedBy
-    out-refused fault line e times′ = answer (Refused fault line) places times′ (go (matchedOf es) (sym answer-is ∙ e))
+    out-refused fault site e times′ = answer (Refused fault site) places times′ (go (matchedOf es) (sym answer-is ∙ e))
       where
-        go : (s : Stop) → message.answerFor es s ≡ Matching.Refused fault line → s ≡ At fault line
+        go : (s : Stop) → message.answerFor es s ≡ Matching.Refused fault site → s ≡ At fault site
         go End q = cc
         go (At f l) q = cc
 

@@ -33,7 +33,7 @@ pub record Solution (table : List ℕ) (es : List Entry) (matched unreceived rou
 
 unfoldable pub solvedBy : List ℕ → List Entry → Solved → List ℕ → List ℤ → Type 0
 solvedBy table es (Times matched unreceived rounds) sends times = Solution table es matched unreceived rounds sends times
-solvedBy table es (Refused fault line) sends times = matchedOf es ≡ At fault line
+solvedBy table es (Refused fault site) sends times = matchedOf es ≡ At fault site
 solvedBy table es Impossible sends times = (matchedOf es ≡ End) × (paper.settle (waitsOf table es) ≡ impossible)
 solvedBy table es Misfit sends times = ⊥
 

@@ -8,11 +8,12 @@ ghost use Rattle.solve.specs.Outcome.{fitting, settledAs, Tables, settle
 use clock::Settled;
 use message::Matching;
 use paper::Fault;
+use paper::Site;
 
 pub enum Solved {
     // matched messages, sends not received, rounds; the places of the sends and the times are in the lent slices
     Times(usize, usize, usize),
-    Refused(Fault, usize),
+    Refused(Fault, Site),
     // no times exist
     Impossible,
     // the slices are not of one length, or longer than the store
@@ -87,7 +88,7 @@ pub fn solve(
         return Solved::Misfit;
     }
     match message::match_messages(store, sends, before) {
-        Matching::Refused(fault, line) => Solved::Refused(fault, line),
+        Matching::Refused(fault, site) => Solved::Refused(fault, site),
         Matching::Misfit => Solved::Misfit,
         Matching::Matched(matched, unreceived) => {
             let settled = settle_with(store, table, sends, before, latency, times, spare);

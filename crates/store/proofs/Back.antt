@@ -10,7 +10,7 @@ use lib.Dec.{leb, leb·zero}
 use lib.IntN.{ℤ, pos, negsuc}
 use Rattle.paper.specs.Line.{messageOf}
 use Rattle.paper.specs.declared.Data.{Data}
-use Rattle.paper.specs.declared.Data.the-variants.{Malformed, Three, Others}
+use Rattle.paper.specs.declared.Data.the-variants.{Three, Others}
 use Rattle.paper.specs.declared.Message.{Message}
 use Rattle.paper.specs.declared.Role.{Role}
 use Rattle.paper.specs.declared.Role.the-variants.{Neither, Send, Receive}
@@ -55,7 +55,6 @@ module _ (p r v : ℕ) (h : p < 64) (g : r ≤ 2) where
 values-back : (d : Data) → TidyData d
     → valuesFrom (valuesCode d) (decoded (word (codeOf (datum d 0)))) (decoded (word (codeOf (datum d 1)))) (decoded (word (codeOf (datum d 2)))) ≡ d
 unfolding valuesFrom valuesCode datum
-values-back Malformed t = refl
 values-back (Three a b c) t = rw (whole-back a (t .0), whole-back b (t .1), whole-back c (t .2))
 values-back Others t = refl
 
@@ -77,7 +76,6 @@ three-back (negsuc n) b c m t e = cc
 
 message-back : (d : Data) (m : Message) → TidyData d → messageOf d ≡ some m → messageIn (datum d 0) (datum d 1) (datum d 2) ≡ m
 unfolding datum messageOf
-message-back Malformed m t e = cc
 message-back (Three a b c) m t e = three-back a b c m t e
 message-back Others m t e = cc
 

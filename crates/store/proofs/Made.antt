@@ -10,7 +10,7 @@ use lib.Seq.{paste}
 use mir.Syntax.{w64}
 use mir.Val.{toZ, ofZ}
 use Rattle.paper.specs.declared.Data.{Data}
-use Rattle.paper.specs.declared.Data.the-variants.{Malformed, Three, Others}
+use Rattle.paper.specs.declared.Data.the-variants.{Three, Others}
 use Rattle.paper.specs.declared.Role.{Role}
 use Rattle.paper.specs.declared.Role.the-variants.{Neither, Send, Receive}
 use Rattle.paper.specs.declared.Record.{Record}
@@ -36,17 +36,12 @@ role-low Neither = omega arith
 role-low (Send m) = omega arith
 role-low (Receive m) = omega arith
 
-pub values-low : (d : Data) → valuesCode d ≤ 2
+pub values-low : (d : Data) → valuesCode d ≤ 1
 unfolding valuesCode
-values-low Malformed = omega arith
 values-low (Three a b c) = omega arith
 values-low Others = omega arith
 
 -- ---- the data
-
-pub words-malformed : {d : Data} → d ≡ Malformed → 0 ∷ 0 ∷ 0 ∷ [] ≡ dataWords d
-unfolding dataWords datum codeOf
-words-malformed e = rw e
 
 pub words-others : {d : Data} → d ≡ Others → 0 ∷ 0 ∷ 0 ∷ [] ≡ dataWords d
 unfolding dataWords datum codeOf

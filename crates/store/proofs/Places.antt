@@ -12,7 +12,7 @@ use lib.Seq.{getD-drop}
 use mir.Syntax.{w64}
 use mir.Val.{toZ, ofZ}
 use Rattle.paper.specs.declared.Data.{Data}
-use Rattle.paper.specs.declared.Data.the-variants.{Malformed, Three, Others}
+use Rattle.paper.specs.declared.Data.the-variants.{Three, Others}
 use Rattle.paper.specs.declared.Message.{Message}
 use Rattle.paper.specs.declared.Role.{Role}
 use Rattle.paper.specs.declared.Role.the-variants.{Neither, Send, Receive}
@@ -102,13 +102,9 @@ module _ (l : List ℕ) (i : ℕ) where
     unfolding valuesFrom
     three e f g t = rw (by-parts, ← mixed, t, e, f, g)
 
-    pub malformed : p / 256 ≡ 2 → Malformed ≡ entryFrom l i .body .values
+    pub others : (p / 256 ≡ 1 → ⊥) → Others ≡ entryFrom l i .body .values
     unfolding valuesFrom
-    malformed t = rw (by-parts, ← mixed, t)
-
-    pub others : (p / 256 ≡ 1 → ⊥) → (p / 256 ≡ 2 → ⊥) → Others ≡ entryFrom l i .body .values
-    unfolding valuesFrom
-    others t u = rw (by-parts, ← mixed, ne-eqb _ 1 t, ne-eqb _ 2 u)
+    others t = rw (by-parts, ← mixed, ne-eqb _ 1 t)
 
   pub entry-is : {t : ℤ} {line processor : ℕ} {kind event : ℤ} {values : Data} {role : Role} → line ≡ entryFrom l i .line
       → t ≡ entryFrom l i .body .time → On (entryFrom l i) processor → kind ≡ entryFrom l i .body .kind → event ≡ entryFrom l i .body .event

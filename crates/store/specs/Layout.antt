@@ -11,7 +11,7 @@ use lib.Dec.{ltb, eqb}
 use Rattle.paper.specs.Clock.{listed}
 use Rattle.paper.specs.Matching.{noEntry}
 use Rattle.paper.specs.declared.Data.{Data}
-use Rattle.paper.specs.declared.Data.the-variants.{Malformed, Three, Others}
+use Rattle.paper.specs.declared.Data.the-variants.{Three, Others}
 use Rattle.paper.specs.declared.Message.{Message}
 use Rattle.paper.specs.declared.Role.{Role}
 use Rattle.paper.specs.declared.Role.the-variants.{Neither, Send, Receive}
@@ -41,11 +41,9 @@ roleCode (Receive m) = 2
 unfoldable pub valuesCode : Data → ℕ
 valuesCode Others = 0
 valuesCode (Three a b c) = 1
-valuesCode Malformed = 2
 
 -- the k-th of three data, 0 where there are no three
 unfoldable pub datum : Data → ℕ → ℤ
-datum Malformed k = pos 0
 datum (Three a b c) k = getD (a ∷ b ∷ c ∷ []) k (pos 0)
 datum Others k = pos 0
 
@@ -87,7 +85,7 @@ unfoldable pub roleFrom : ℕ → Message → Role
 roleFrom code m = cond (eqb code 1) (Send m) (cond (eqb code 2) (Receive m) Neither)
 
 unfoldable pub valuesFrom : ℕ → (a b c : ℤ) → Data
-valuesFrom code a b c = cond (eqb code 1) (Three a b c) (cond (eqb code 2) Malformed Others)
+valuesFrom code a b c = cond (eqb code 1) (Three a b c) Others
 
 -- the three data as a message: a length and a processor are not negative, so that half the code is the number
 unfoldable pub messageFrom : List ℕ → Message

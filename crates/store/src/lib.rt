@@ -4,12 +4,14 @@ mod numbers;
 mod parts;
 
 ghost use mathlib.Core.Path.{_≡_};
+ghost use Rattle.paper.specs.Columns.{wholeLine};
 ghost use Rattle.store.specs.Layout as layout;
 ghost use Rattle.store.specs.Layout.{entryFrom, startFrom, putAt, On};
 use paper::Data;
 use paper::Entry;
 use paper::Record;
 use paper::Role;
+use paper::Site;
 use parts::WIDTH;
 
 // A record's place is kept in 32 bits, and so is the number of the records, which stands for no place.
@@ -101,9 +103,6 @@ pub fn values_at(store: &[u32], i: usize) -> Data
         let c = parts::whole(store, i, 9);
         return Data::Three(a, b, c);
     }
-    if form == 2 {
-        return Data::Malformed;
-    }
     Data::Others
 }
 
@@ -112,6 +111,16 @@ pub fn line_at(store: &[u32], i: usize) -> usize
 {
     let line = parts::part(store, i, 2);
     line as usize
+}
+
+// Its line as a whole, for a refusal.
+pub fn site_at(store: &[u32], i: usize) -> Site
+    ensures { λ r. ⌜ r ≡ wholeLine (entryFrom (now (store .entry)) i .line) ⌝ }
+{
+    Site {
+        line: line_at(store, i),
+        column: 0,
+    }
 }
 
 pub fn start_at(store: &[u32], i: usize) -> usize

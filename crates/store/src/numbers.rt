@@ -22,7 +22,6 @@ fn values_code(values: Data) -> u32
     ensures { λ r. ⌜ r ≡ valuesCode values ⌝ }
 {
     match values {
-        Data::Malformed => 2,
         Data::Three(_, _, _) => 1,
         Data::Others => 0,
     }
@@ -40,7 +39,6 @@ fn data_words(values: Data) -> [u32; 3]
     ensures { λ r. ⌜ r ≡ dataWords values ⌝ }
 {
     match values {
-        Data::Malformed => [0, 0, 0],
         Data::Three(a, b, c) => {
             let first = code_word(a);
             let second = code_word(b);

@@ -14,6 +14,7 @@ use Rattle.paper.specs.Reading.{Lines, done, unended, ended, before, linesOf, S
 use Rattle.paper.specs.declared.Choice.{Choice}
 use Rattle.paper.specs.declared.Fault.the-variants as Fault
 use Rattle.paper.specs.declared.Record.{Record}
+use Rattle.paper.specs.declared.Spot.the-variants.{Whole}
 use Rattle.paper.specs.declared.Line.{Line}
 use Rattle.paper.specs.declared.Line.the-variants.{Refused, Passed, Listed}
 use Rattle.reading.specs.Joined.{lineCount}
@@ -24,11 +25,11 @@ use Rattle.store.specs.Layout.{AllSmall}
 -- a checked line is what it was, or refused
 checked-listed : (most : ℕ) (st : State) (x : Line) (r : Record) → checked most st x ≡ Listed r → (x ≡ Listed r) × (st .listed < most)
 unfolding checked
-checked-listed most st (Refused fault) r e = absurd (let q : _≡_ {A = ℕ} 0 1 = cc in omega arith)
+checked-listed most st (Refused fault spot) r e = absurd (let q : _≡_ {A = ℕ} 0 1 = cc in omega arith)
 checked-listed most st Passed r e = absurd (let q : _≡_ {A = ℕ} 0 1 = cc in omega arith)
 checked-listed most st (Listed q) r e = go (ltZ (q .time) (getD (st .last) (q .processor) (pos 0))) (leb most (st .listed)) refl e
   where
-    go : (a b : Bool) → leb most (st .listed) ≡ b → cond a (Refused Fault.Backwards) (cond b (Refused Fault.TooMany) (Listed q)) ≡ Listed r
+    go : (a b : Bool) → leb most (st .listed) ≡ b → cond a (Refused Fault.Backwards Whole) (cond b (Refused Fault.TooMany Whole) (Listed q)) ≡ Listed r
         → (Listed q ≡ Listed r) × (st .listed < most)
     go true b p e = absurd (let z : _≡_ {A = ℕ} 0 1 = cc in omega arith)
     go false true p e = absurd (let z : _≡_ {A = ℕ} 0 1 = cc in omega arith)
@@ -41,12 +42,12 @@ module _ (choice : Choice) (most : ℕ) (P : ℕ → State → ℕ → Reading �
     (passes : (n : ℕ) (st : State) (k : ℕ) (r : Reading) → P (n + 1) (withPassed st) k r → P n st (suc k) r)
     (lists : (n : ℕ) (st : State) (k : ℕ) (r : Reading) (b : Record) → TidyRecord b → st .listed < most → P (n + 1) (withListed st b) k r
     → P n st (suc k) (withEntry (record { line = n; body = b }) r)) where
-  on-line : (n : ℕ) (st : State) (k : ℕ) (x : Line) (more : State → Reading) → ((r : Record) → x ≡ Listed r → TidyRecord r × (st .listed < most))
-      → ((st₁ : State) → P (n + 1) st₁ k (more st₁)) → P n st (suc k) (onLine n st x more)
+  on-line : (n : ℕ) (l : List ℕ) (st : State) (k : ℕ) (x : Line) (more : State → Reading) → ((r : Record) → x ≡ Listed r → TidyRecord r × (st .listed < most))
+      → ((st₁ : State) → P (n + 1) st₁ k (more st₁)) → P n st (suc k) (onLine n l st x more)
   unfolding onLine
-  on-line n st k (Refused fault) more tidy later = ends n st (suc k) _ refl refl
-  on-line n st k Passed more tidy later = passes n st k (more (withPassed st)) (later (withPassed st))
-  on-line n st k (Listed r) more tidy later =
+  on-line n l st k (Refused fault spot) more tidy later = ends n st (suc k) _ refl refl
+  on-line n l st k Passed more tidy later = passes n st k (more (withPassed st)) (later (withPassed st))
+  on-line n l st k (Listed r) more tidy later =
       let t = tidy r refl in lists n st k (more (withListed st r)) r (t .0) (t .1) (later (withListed st r))
 
   by-lines : (x : Lines) (n : ℕ) (st : State) → P n st (lineCount x) (readFrom choice most x n st)
@@ -54,7 +55,7 @@ module _ (choice : Choice) (most : ℕ) (P : ℕ → State → ℕ → Reading �
   by-lines done n st = ends n st 0 _ refl refl
   by-lines (unended l) n st = ends n st 0 _ refl refl
   by-lines (ended l x) n st =
-      on-line n st (lineCount x) (checked most st (lineOf choice l)) (λ st₁. readFrom choice most x (n + 1) st₁)
+      on-line n l st (lineCount x) (checked most st (lineOf choice l)) (λ st₁. readFrom choice most x (n + 1) st₁)
       (λ r e. let q = checked-listed most st (lineOf choice l) r e in (tidy-of r (q .0), q .1))
       (λ st₁. by-lines x (n + 1) st₁)
     where

@@ -4,26 +4,30 @@ use mathlib.Core.Path.{_≡_, refl, sym, ap, _∙_}
 use mathlib.Core.List.{List, [], _∷_, _++_, append-nil}
 use mathlib.Core.Bool.{Bool, true, false}
 use native.Mathlib.Omega.{arith}
-use lib.ListN.{length, take, drop, getD, set, length-append, length-set, drop-of-length-le}
-use lib.Seq.{append-snoc}
+use native.Mathlib.Numerals.{add-one}
+use lib.ListN.{length, take, drop, getD, set, length-append, length-set, length-drop, drop-of-length-le}
+use lib.Seq.{append-snoc, length-take-le}
 use lib.IntN.{ℤ, pos}
 use lib.Signed.{ltZ}
 use borrow.Author.Tests.{le-leb, lt-leb}
 use Rattle.bytes.specs.Bytes.{indexOf, slice}
 use Rattle.paper.specs.Line.{lineOf}
+use Rattle.paper.specs.Columns.{columnIn, inLine, wholeLine}
 use Rattle.paper.specs.Reading.{linesOf, start, checked, withListed, withPassed, onLine, readFrom, readOf}
 use Rattle.paper.specs.declared.Choice.{Choice}
 use Rattle.paper.specs.declared.Fault.{Fault}
 use Rattle.paper.specs.declared.Fault.the-variants as Fault
 use Rattle.paper.specs.declared.Record.{Record}
 use Rattle.paper.specs.declared.Entry.{Entry}
+use Rattle.paper.specs.declared.Spot.{Spot}
+use Rattle.paper.specs.declared.Spot.the-variants.{Whole}
 use Rattle.paper.specs.declared.Line.{Line}
 use Rattle.paper.specs.declared.Line.the-variants.{Refused, Passed, Listed}
 use Rattle.paper.specs.declared.Stop.{Stop}
 use Rattle.paper.specs.declared.Stop.the-variants.{End, At}
 use Rattle.reading.specs.Joined.{behind}
 use Rattle.reading.specs.Starts.{bytesBefore, startOf}
-use Rattle.reading.specs.Places.{nextLine}
+use Rattle.reading.specs.Places.{lineAt, nextLine}
 use Rattle.reading.proofs.Found.{ended-at, next-at, unended-here, line-here, next-here}
 use Rattle.reading.proofs.Tidy.{tidy-record}
 use Rattle.line.specs.Quick.{Here, QuickAt}
@@ -74,6 +78,11 @@ module _ {choice : Choice} {s : List ℕ} {at : ℕ} {x : Line} where
   pub shorter : {next : ℕ} → Here choice s at x next → length s - next < length s - at
   shorter here = omega (arith, further here, here .near)
 
+-- the column of what decides in it
+pub column-here : (s : List ℕ) (at end : ℕ) → end ≡ at + indexOf 10 (slice at (length s) s) → (spot : Spot) {column : ℕ}
+    → column ≡ columnIn (take (end - at) (drop at s)) spot → column ≡ columnIn (lineAt s at) spot
+column-here s at end found spot is = rw (line-here s at end found) at is
+
 -- ---- a turn
 
 -- two times compared as the machine holds them
@@ -108,9 +117,11 @@ module _ {choice : Choice} {s store₀ : List ℕ} {most : ℕ} {store : List �
 
   -- "no LF at its end (5)"
   pub at-unended : (end : ℕ) → at < length s → end ≡ at + indexOf 10 (slice at (length s) s) → end ≡ length s
-      → ReadInto choice s store₀ (record { stop = At Fault.Form n; listed = listed; passed = passed }) store
+      → ReadInto choice s store₀ (record { stop = At Fault.Form (inLine n (end - at + 1)); listed = listed; passed = passed }) store
   unfolding readFrom
-  at-unended end some-left found e = stopped (At Fault.Form n) (rw (unended-here s at end found some-left e))
+  at-unended end some-left found e =
+      let long : length (take (end - at) (drop at s)) ≡ end - at = length-take-le (end - at) (drop at s) (simp length-drop (omega arith)) in
+      stopped (At Fault.Form (inLine n (end - at + 1))) (rw (unended-here s at end found some-left e, long, add-one))
 
   -- an ended line
   module _ {x : Line} {next : ℕ} (here : Here choice s at x next) where
@@ -119,7 +130,7 @@ module _ {choice : Choice} {s store₀ : List ℕ} {most : ℕ} {store : List �
 
     -- what the line comes to, and the lines after it
     onward : readFrom choice most (linesOf (drop at s)) n (state last listed passed)
-        ≡ onLine n (state last listed passed) (checked most (state last listed passed) x)
+        ≡ onLine n (lineAt s at) (state last listed passed) (checked most (state last listed passed) x)
         (λ st. readFrom choice most (linesOf (drop next s)) (n + 1) st)
     unfolding readFrom
     onward = rw (here .reads, here .ends, ended-at s at near)
@@ -131,15 +142,15 @@ module _ {choice : Choice} {s store₀ : List ℕ} {most : ℕ} {store : List �
         let step : n + 1 + k ≡ n + suc k = omega arith in
         rw (step, going .starts (suc k), ended-at s at near, here .ends) (omega (arith, next-at s at near))
 
-    refuses : (fault : Fault) → checked most (state last listed passed) x ≡ Refused fault
-        → ReadInto choice s store₀ (record { stop = At fault n; listed = listed; passed = passed }) store
+    refuses : (fault : Fault) (spot : Spot) → checked most (state last listed passed) x ≡ Refused fault spot
+        → ReadInto choice s store₀ (record { stop = At fault (inLine n (columnIn (lineAt s at) spot)); listed = listed; passed = passed }) store
     unfolding onLine
-    refuses fault e = stopped (At fault n) (onward ∙ rw e)
+    refuses fault spot e = stopped (At fault (inLine n (columnIn (lineAt s at) spot))) (onward ∙ rw e)
 
-    pub line-refused : (fault : Fault) → x ≡ Refused fault
-        → ReadInto choice s store₀ (record { stop = At fault n; listed = listed; passed = passed }) store
+    pub line-refused : (fault : Fault) (spot : Spot) → x ≡ Refused fault spot → {column : ℕ} → column ≡ columnIn (lineAt s at) spot
+        → ReadInto choice s store₀ (record { stop = At fault (inLine n column); listed = listed; passed = passed }) store
     unfolding checked
-    line-refused fault e = refuses fault (rw e)
+    line-refused fault spot e q = rw q (refuses fault spot (rw e))
 
     pub line-passed : x ≡ Passed → Going choice s store₀ most store last listed (passed + 1) next (n + 1)
     unfolding onLine checked withPassed
@@ -160,17 +171,17 @@ module _ {choice : Choice} {s store₀ : List ℕ} {most : ℕ} {store : List �
 
     module _ (r : Record) (lists : x ≡ Listed r) (early : Bool) (tells : early ≡ ltZ (r .time) (getD last (r .processor) (pos 0))) where
       pub line-backwards : early ≡ true
-          → ReadInto choice s store₀ (record { stop = At Fault.Backwards n; listed = listed; passed = passed }) store
-      unfolding checked
-      line-backwards e = refuses Fault.Backwards (rw (lists, sym tells ∙ e))
+          → ReadInto choice s store₀ (record { stop = At Fault.Backwards (wholeLine n); listed = listed; passed = passed }) store
+      unfolding checked columnIn
+      line-backwards e = refuses Fault.Backwards Whole (rw (lists, sym tells ∙ e))
 
       module _ (not-early : early ≡ false) where
         in-order : ltZ (r .time) (getD last (r .processor) (pos 0)) ≡ false
         in-order = sym tells ∙ not-early
 
-        pub line-too-many : most ≤ listed → ReadInto choice s store₀ (record { stop = At Fault.TooMany n; listed = listed; passed = passed }) store
-        unfolding checked
-        line-too-many h = refuses Fault.TooMany (rw (lists, in-order, le-leb most listed h))
+        pub line-too-many : most ≤ listed → ReadInto choice s store₀ (record { stop = At Fault.TooMany (wholeLine n); listed = listed; passed = passed }) store
+        unfolding checked columnIn
+        line-too-many h = refuses Fault.TooMany Whole (rw (lists, in-order, le-leb most listed h))
 
         pub line-listed : listed < most → (store₁ : List ℕ) → store₁ ≡ putAt store listed at (record { line = n; body = r }) → length store₁ ≡ length store → (u : ℤ) → u ≡ r .time
             → Going choice s store₀ most store₁ (set last (r .processor) u) (listed + 1) passed next (n + 1)

@@ -3,11 +3,11 @@
 // as it can, and the one here goes on from there, step by step: to the end of a good trace, or to the line that is refused.
 mod quick;
 
-ghost use mathlib.Core.Path.{_≡_};
 ghost use Rattle.trace.specs.Read.{ReadInto};
 use paper::Choice;
 use paper::Fault;
 use paper::Line;
+use paper::Site;
 use paper::Stop;
 
 // Where the reading ended, and how many lines were listed and passed over up to there.
@@ -31,8 +31,12 @@ pub fn read_trace(choice: Choice, s: &[u8], store: &mut [u32]) -> Read
     while at < s.len() {
         let end = bytes::scan::find(s, at, s.len(), 10);
         if end == s.len() {
+            let site = Site {
+                line: n,
+                column: end - at + 1,
+            };
             return Read {
-                stop: Stop::At(Fault::Form, n),
+                stop: Stop::At(Fault::Form, site),
                 listed: listed,
                 passed: passed,
             };
@@ -40,9 +44,13 @@ pub fn read_trace(choice: Choice, s: &[u8], store: &mut [u32]) -> Read
         let next = end + 1;
         let below = n + 1;
         match line::read_line(choice, &s[at..end]) {
-            Line::Refused(fault) => {
+            Line::Refused(fault, spot) => {
+                let site = Site {
+                    line: n,
+                    column: line::column(&s[at..end], spot),
+                };
                 return Read {
-                    stop: Stop::At(fault, n),
+                    stop: Stop::At(fault, site),
                     listed: listed,
                     passed: passed,
                 };
@@ -57,14 +65,14 @@ pub fn read_trace(choice: Choice, s: &[u8], store: &mut [u32]) -> Read
                 let time = r.time;
                 if signed::earlier(time, last[p]) {
                     return Read {
-                        stop: Stop::At(Fault::Backwards, n),
+                        stop: Stop::At(Fault::Backwards, Site { line: n, column: 0 }),
                         listed: listed,
                         passed: passed,
                     };
                 }
                 if most <= listed {
                     return Read {
-                        stop: Stop::At(Fault::TooMany, n),
+                        stop: Stop::At(Fault::TooMany, Site { line: n, column: 0 }),
                         listed: listed,
                         passed: passed,
                     };

@@ -40,7 +40,7 @@ pub(crate) fn lines(
             return here;
         };
         match line {
-            Line::Refused(_) => return here,
+            Line::Refused(_, _) => return here,
             Line::Passed => {
                 passed += 1;
                 at = next;

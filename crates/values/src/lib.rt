@@ -1,59 +1,56 @@
-// The data of a listed record, from the cursor to the end of its line.
+// The data of a listed record, from the cursor to the end of its line: what they are, or the field that is bad, missing or too many. Field 5
+// is the number of data, 6 the descriptor and 7 the first datum.
 ghost use mathlib.Core.Path.{_≡_};
+ghost use Prim.Native.Nat.{_≤_};
 ghost use Rattle.paper.specs.Line.{valuesOf, asWholes, asOthers, dataOf, described};
 ghost use Rattle.field.specs.Cursor.{restAt, readAs};
-ghost use Rattle.values.specs.Values.{isSome};
 use field::Form;
 use field::Got;
 use paper::Data;
-
-// Exactly n fields in the form, from the cursor to the end of the line.
-fn values_good(l: &[u8], at: usize, n: usize, form: Form) -> bool
-    ensures { λ r. ⌜ r ≡ isSome (valuesOf (readAs form) n (restAt (now (l .entry)) at)) ⌝ }
-{
-    let mut p = at;
-    let mut left = n;
-    while 0 < left {
-        let Got::Value(_, next) = field::value_at(l, p, form) else {
-            return false;
-        };
-        p = next;
-        left -= 1;
-    }
-    l.len() < p
-}
+use paper::Values;
 
 // Three whole numbers and no more.
-fn three(l: &[u8], at: usize) -> Data
-    ensures { λ r. ⌜ r ≡ asWholes (valuesOf (readAs Form.Whole) 3 (restAt (now (l .entry)) at)) ⌝ }
+fn three(l: &[u8], at: usize) -> Values
+    ensures { λ r. ⌜ r ≡ asWholes (valuesOf (readAs Form.Whole) 7 3 (restAt (now (l .entry)) at)) ⌝ }
 {
     let Got::Value(a, p1) = field::value_at(l, at, Form::Whole) else {
-        return Data::Malformed;
+        return Values::Bad(7);
     };
     let Got::Value(b, p2) = field::value_at(l, p1, Form::Whole) else {
-        return Data::Malformed;
+        return Values::Bad(8);
     };
     let Got::Value(c, p3) = field::value_at(l, p2, Form::Whole) else {
-        return Data::Malformed;
+        return Values::Bad(9);
     };
     if l.len() < p3 {
-        return Data::Three(a, b, c);
+        return Values::Good(Data::Three(a, b, c));
     }
-    Data::Malformed
+    Values::Bad(10)
 }
 
-// Data that are only looked at for their form.
-fn others(l: &[u8], at: usize, n: usize, form: Form) -> Data
-    ensures { λ r. ⌜ r ≡ asOthers (valuesOf (readAs form) n (restAt (now (l .entry)) at)) ⌝ }
+// Data that are only looked at for their form: n fields in it and no more.
+fn others(l: &[u8], at: usize, n: usize, form: Form) -> Values
+    requires { ⌜ n ≤ 16 ⌝ }
+    ensures { λ r. ⌜ r ≡ asOthers (valuesOf (readAs form) 7 n (restAt (now (l .entry)) at)) ⌝ }
 {
-    if values_good(l, at, n, form) {
-        return Data::Others;
+    let mut p = at;
+    let mut i = 0;
+    while i < n {
+        let Got::Value(_, next) = field::value_at(l, p, form) else {
+            return Values::Bad(7 + i);
+        };
+        p = next;
+        i += 1;
     }
-    Data::Malformed
+    if l.len() < p {
+        return Values::Good(Data::Others);
+    }
+    Values::Bad(7 + i)
 }
 
-fn wholes(l: &[u8], at: usize, n: usize) -> Data
-    ensures { λ r. ⌜ r ≡ asWholes (valuesOf (readAs Form.Whole) n (restAt (now (l .entry)) at)) ⌝ }
+fn wholes(l: &[u8], at: usize, n: usize) -> Values
+    requires { ⌜ n ≤ 16 ⌝ }
+    ensures { λ r. ⌜ r ≡ asWholes (valuesOf (readAs Form.Whole) 7 n (restAt (now (l .entry)) at)) ⌝ }
 {
     if n == 3 {
         return three(l, at);
@@ -62,7 +59,8 @@ fn wholes(l: &[u8], at: usize, n: usize) -> Data
 }
 
 // "Descriptor in a listed record: 2 (each datum a whole number) or 5 (each datum in the form of a time)."
-fn described_by(l: &[u8], at: usize, n: usize, descriptor: i64) -> Data
+fn described_by(l: &[u8], at: usize, n: usize, descriptor: i64) -> Values
+    requires { ⌜ n ≤ 16 ⌝ }
     ensures { λ r. ⌜ r ≡ described n descriptor (restAt (now (l .entry)) at) ⌝ }
 {
     if signed::same(descriptor, 2) {
@@ -71,21 +69,24 @@ fn described_by(l: &[u8], at: usize, n: usize, descriptor: i64) -> Data
     if signed::same(descriptor, 5) {
         return others(l, at, n, Form::Time);
     }
-    Data::Malformed
+    Values::Bad(6)
 }
 
 // "only if that number is above zero, a descriptor and the data", "in a listed record at most 16"
-pub fn read(l: &[u8], at: usize, n: usize) -> Data
+pub fn read(l: &[u8], at: usize, n: usize) -> Values
     ensures { λ r. ⌜ r ≡ dataOf n (restAt (now (l .entry)) at) ⌝ }
 {
     if n == 0 {
-        return others(l, at, 0, Form::Whole);
+        if l.len() < at {
+            return Values::Good(Data::Others);
+        }
+        return Values::Bad(6);
     }
     if 16 < n {
-        return Data::Malformed;
+        return Values::Bad(5);
     }
     let Got::Value(descriptor, next) = field::value_at(l, at, Form::Whole) else {
-        return Data::Malformed;
+        return Values::Bad(6);
     };
     described_by(l, next, n, descriptor)
 }

@@ -13,14 +13,14 @@ accepted-requires c κs = search needs
 enum-told : tie.Need-enum-told
 enum-told c = search needs
 
-refused-requires : tie.Need-refused-requires
-refused-requires c κs = search needs
+refused-nowhere-requires : tie.Need-refused-nowhere-requires
+refused-nowhere-requires c κs = search needs
 
 enum-told-2 : tie.Need-enum-told-2
 enum-told-2 c = search needs
 
-refused-requires-2 : tie.Need-refused-requires-2
-refused-requires-2 c κs = search needs
+refused-nowhere-requires-2 : tie.Need-refused-nowhere-requires-2
+refused-nowhere-requires-2 c κs = search needs
 
 returns : tie.Need-returns
 unfolding answerFor
@@ -28,11 +28,11 @@ returns c = rw (c .before .before .done .given .1) (c .accepted .ensures)
 
 returns-2 : tie.Need-returns-2
 unfolding answerFor
-returns-2 c = rw (c .before .enum-told .given .1) (c .refused .ensures)
+returns-2 c = rw (c .before .enum-told .given .1) (c .refused-nowhere .ensures)
 
 returns-3 : tie.Need-returns-3
 unfolding answerFor
-returns-3 c = rw (c .before .enum-told2 .given .1) (c .refused2 .ensures)
+returns-3 c = rw (c .before .enum-told2 .given .1) (c .refused-nowhere2 .ensures)
 
 pub answer-for-spec : {M : Type 1} → statement M
 answer-for-spec =
@@ -41,9 +41,9 @@ answer-for-spec =
     enum-known-done
     accepted-requires
     enum-told
-    refused-requires
+    refused-nowhere-requires
     enum-told-2
-    refused-requires-2
+    refused-nowhere-requires-2
     returns
     returns-2
     returns-3)

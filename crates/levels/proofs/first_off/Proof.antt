@@ -38,20 +38,20 @@ shared-slice-read-off-2 c =
 off-requires : tie.Need-off-requires Inv-loop μ-loop
 off-requires c κs = search needs
 
-mul-line-at : tie.Need-mul-line-at Inv-loop μ-loop
-mul-line-at c = search needs
+mul-site-at : tie.Need-mul-site-at Inv-loop μ-loop
+mul-site-at c = search needs
 
-shared-slice-read-line-at : tie.Need-shared-slice-read-line-at Inv-loop μ-loop
-shared-slice-read-line-at c = search needs
+shared-slice-read-site-at : tie.Need-shared-slice-read-site-at Inv-loop μ-loop
+shared-slice-read-site-at c = search needs
 
-line-at-requires : tie.Need-line-at-requires Inv-loop μ-loop
-line-at-requires c κs = search needs
+site-at-requires : tie.Need-site-at-requires Inv-loop μ-loop
+site-at-requires c κs = search needs
 
 returns : tie.Need-returns Inv-loop μ-loop
 returns c =
     let c₃ = c .before .before .before in
     let c₆ = c₃ .before .before .before in
-    off-here _ _ _ (c₆ .before .before .before .before .before .pre) (c₆ .loop-test .taken) (c₃ .off .ensures) (c .before .before .if1 .taken) (c .line-at .ensures)
+    off-here _ _ _ (c₆ .before .before .before .before .before .pre) (c₆ .loop-test .taken) (c₃ .off .ensures) (c .before .before .if1 .taken) (c .site-at .ensures)
     ∙ c₆ .before .loop .inv .1
 
 add-p : tie.Need-add-p Inv-loop μ-loop
@@ -82,9 +82,9 @@ first-off-spec =
     mul-off-2
     shared-slice-read-off-2
     off-requires
-    mul-line-at
-    shared-slice-read-line-at
-    line-at-requires
+    mul-site-at
+    shared-slice-read-site-at
+    site-at-requires
     returns
     add-p
     loop-less

@@ -1,6 +1,6 @@
 -- `line::read_line` meets its contract.
 use borrow.Author.Needs.{needs}
-use mathlib.Core.Path.{_≡_, refl, sym, ap, _∙_}
+use mathlib.Core.Path.{_∙_}
 use Rattle.line.proofs.Sorts.{opened, not-opened}
 use Rattle.line.proofs.read_line.Statement.{statement}
 use Rattle.line.proofs.read_line.Tie as tie
@@ -21,7 +21,7 @@ returns : tie.Need-returns
 returns c = c .sort-line .ensures ∙ opened _ _ _ (c .before .before .before .before .read-head .ensures) _ _ (c .before .before .h .given .1)
 
 returns-2 : tie.Need-returns-2
-returns-2 c = not-opened _ _ _ (c .before .before .before .read-head .ensures) _ (c .before .fault .given .1)
+returns-2 c = not-opened _ _ _ (c .before .before .before .read-head .ensures) _ _ (c .before .fault .given .1)
 
 pub read-line-spec : {M : Type 1} → statement M
 read-line-spec =

@@ -28,8 +28,8 @@ shared-slice-read-s c = search needs
 cast-s : tie.Need-cast-s
 cast-s c = widens (c .shared-slice-known3 .given _)
 
-line-at-requires : tie.Need-line-at-requires
-line-at-requires c κs = search needs
+site-at-requires : tie.Need-site-at-requires
+site-at-requires c κs = search needs
 
 returns : tie.Need-returns
 returns c =
@@ -37,7 +37,7 @@ returns c =
     let c₆ = c₄ .before .before in
     let start = c₆ .before .before .before in
     let m = c₄ .role .given in
-    calls-no-send _ _ _ (start .pre .0) (c₆ .role-at .ensures) (m .0 .0) (m .1) (start .args .sends .now) (start .pre .1) (c .before .if1 .taken) (c .line-at .ensures)
+    calls-no-send _ _ _ (start .pre .0) (c₆ .role-at .ensures) (m .0 .0) (m .1) (start .args .sends .now) (start .pre .1) (c .before .if1 .taken) (c .site-at .ensures)
 
 role-at-requires-2 : tie.Need-role-at-requires-2
 role-at-requires-2 c κs = search needs
@@ -45,8 +45,8 @@ role-at-requires-2 c κs = search needs
 length-sent-requires : tie.Need-length-sent-requires
 length-sent-requires c κs = search needs
 
-line-at-requires-2 : tie.Need-line-at-requires-2
-line-at-requires-2 c κs = search needs
+site-at-requires-2 : tie.Need-site-at-requires-2
+site-at-requires-2 c κs = search needs
 
 returns-2 : tie.Need-returns-2
 returns-2 c =
@@ -57,7 +57,7 @@ returns-2 c =
     let m = c₇ .role .given in
     let sent = c .before .before .length-sent in
     calls-long-receive _ _ _ (start .pre .0) (c₉ .role-at .ensures) (m .0 .0) (m .1) (start .args .sends .now) (start .pre .1)
-    (sent .result) (c₃ .before .if1 .left) (sent .ensures ∙ ap lengthSent (c₃ .role-at2 .ensures)) (c .before .if2 .taken) (c .line-at2 .ensures)
+    (sent .result) (c₃ .before .if1 .left) (sent .ensures ∙ ap lengthSent (c₃ .role-at2 .ensures)) (c .before .if2 .taken) (c .site-at2 .ensures)
 
 returns-3 : tie.Need-returns-3
 returns-3 c =
@@ -91,11 +91,11 @@ call-at-spec =
     mul-s
     shared-slice-read-s
     cast-s
-    line-at-requires
+    site-at-requires
     returns
     role-at-requires-2
     length-sent-requires
-    line-at-requires-2
+    site-at-requires-2
     returns-2
     returns-3
     returns-4

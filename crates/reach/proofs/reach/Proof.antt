@@ -31,6 +31,9 @@ check-requires c κs = search needs
 enum-known-fault : tie.Need-enum-known-fault
 enum-known-fault c = search needs
 
+nowhere-requires : tie.Need-nowhere-requires
+nowhere-requires c κs = search needs
+
 enum-known-choice : tie.Need-enum-known-choice
 enum-known-choice c = search needs
 
@@ -49,10 +52,10 @@ same-length-2 c = search needs
 returns-2 : tie.Need-returns-2
 unfolding most reaches
 returns-2 c =
-    let check = c .before .before .before in
+    let check = c .before .before .before .before in
     let fit = check .before in
     let a = fit .before .before .before .before .before .before .before .before .before .before .args in
-    answered (givenOf (a .trace .now) (a .latencies .now) (a .asked) (a .places)) (a .store .now) (a .sends .now) (a .before .now) (a .latency .now) (a .times .now) (a .spare .now) (fit .before .before .capacity .ensures) (fit .before .fit .ensures) (not-false _ (fit .if1 .left)) _ _ _ _ (cleared-refused (givenOf (a .trace .now) (a .latencies .now) (a .asked) (a .places)) _ (check .check .ensures) (c .before .fault .given .1))
+    answered (givenOf (a .trace .now) (a .latencies .now) (a .asked) (a .places)) (a .store .now) (a .sends .now) (a .before .now) (a .latency .now) (a .times .now) (a .spare .now) (fit .before .before .capacity .ensures) (fit .before .fit .ensures) (not-false _ (fit .if1 .left)) _ _ _ _ (cleared-refused (givenOf (a .trace .now) (a .latencies .now) (a .asked) (a .places)) _ (check .check .ensures) (c .before .before .fault .given .1) (c .nowhere .ensures))
 
 same-length-3 : tie.Need-same-length-3
 same-length-3 c = c .before .before .before .before .before .before .before .before .before .store .given
@@ -91,6 +94,7 @@ reach-spec =
     returns
     check-requires
     enum-known-fault
+    nowhere-requires
     enum-known-choice
     read-requires
     same-length-2

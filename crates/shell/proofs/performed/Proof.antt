@@ -10,8 +10,8 @@ planned-requires c κs = search needs
 enum-told : tie.Need-enum-told
 enum-told c = search needs
 
-refused-requires : tie.Need-refused-requires
-refused-requires c κs = search needs
+refused-nowhere-requires : tie.Need-refused-nowhere-requires
+refused-nowhere-requires c κs = search needs
 
 enum-told-2 : tie.Need-enum-told-2
 enum-told-2 c = search needs
@@ -29,7 +29,7 @@ judge-files-requires : tie.Need-judge-files-requires
 judge-files-requires c κs = search needs
 
 returns : tie.Need-returns
-returns c = refuses _ _ (c .before .before .before .planned .ensures) (c .before .enum-told .given .1) (c .refused .ensures)
+returns c = refuses _ _ (c .before .before .before .planned .ensures) (c .before .enum-told .given .1) (c .refused-nowhere .ensures)
 
 returns-2 : tie.Need-returns-2
 returns-2 c = says-many _ _ (c .before .before .planned .ensures) (c .enum-told2 .given .1)
@@ -48,7 +48,7 @@ performed-spec =
     (tie.spec
     planned-requires
     enum-told
-    refused-requires
+    refused-nowhere-requires
     enum-told-2
     enum-told-3
     enum-known-choice

@@ -1,7 +1,7 @@
--- `store::values_at` meets its contract: its two tests are those of `valuesFrom`.
+-- `store::values_at` meets its contract: its test is that of `valuesFrom`.
 use borrow.Author.Needs.{needs}
 use Rattle.store.specs.Layout.{width}
-use Rattle.store.proofs.Places.{through, three, malformed, others}
+use Rattle.store.proofs.Places.{through, three, others}
 use Rattle.store.proofs.values_at.Statement.{statement}
 use Rattle.store.proofs.values_at.Tie as tie
 
@@ -25,10 +25,7 @@ returns : tie.Need-returns
 returns c = three _ _ (c .before .before .before .before .part .ensures) (through (c .before .before .whole .ensures) (search needs)) (through (c .before .whole2 .ensures) (search needs)) (through (c .whole3 .ensures) (search needs)) (c .before .before .before .if1 .taken)
 
 returns-2 : tie.Need-returns-2
-returns-2 c = malformed _ _ (c .before .before .part .ensures) (c .if2 .taken)
-
-returns-3 : tie.Need-returns-3
-returns-3 c = others _ _ (c .before .before .part .ensures) (c .before .if1 .left) (c .if2 .left)
+returns-2 c = others _ _ (c .before .part .ensures) (c .if1 .left)
 
 pub values-at-spec : {M : Type 1} → statement M
-values-at-spec = tie.close (tie.spec part-requires whole-requires whole-requires-2 whole-requires-3 returns returns-2 returns-3)
+values-at-spec = tie.close (tie.spec part-requires whole-requires whole-requires-2 whole-requires-3 returns returns-2)

@@ -14,7 +14,7 @@ use Rattle.paper.specs.Reading.{start}
 use Rattle.paper.specs.declared.Record.{Record}
 use Rattle.line.specs.Quick.{Here}
 use Rattle.trace.specs.Going.{Going}
-use Rattle.trace.proofs.Going.{searched, shorter, compared, processor-in, at-end, at-unended, line-refused, line-passed, line-backwards, line-too-many, line-listed}
+use Rattle.trace.proofs.Going.{searched, column-here, shorter, compared, processor-in, at-end, at-unended, line-refused, line-passed, line-backwards, line-too-many, line-listed}
 use Rattle.trace.proofs.read_trace.Statement.{statement}
 use Rattle.trace.proofs.read_trace.Tie as tie
 
@@ -102,6 +102,12 @@ loop-holds c store₀ going = going
 find-requires : tie.Need-find-requires Inv-loop μ-loop
 find-requires c κs = search needs
 
+sub-t28 : tie.Need-sub-t28 Inv-loop μ-loop
+sub-t28 c = search needs
+
+add-t29 : tie.Need-add-t29 Inv-loop μ-loop
+add-t29 c = search needs
+
 same-length : tie.Need-same-length Inv-loop μ-loop
 same-length c = going (c .before .before .before) .long
 
@@ -129,13 +135,26 @@ read-line-requires c κs = search needs
 enum-known-fault : tie.Need-enum-known-fault Inv-loop μ-loop
 enum-known-fault c = search needs
 
+sub-column : tie.Need-sub-column Inv-loop μ-loop
+sub-column c = search needs
+
+part-column-start : tie.Need-part-column-start Inv-loop μ-loop
+part-column-start c = search needs
+
+part-column-end : tie.Need-part-column-end Inv-loop μ-loop
+part-column-end c = search needs
+
+column-requires : tie.Need-column-requires Inv-loop μ-loop
+column-requires c κs = search needs
+
 same-length-2 : tie.Need-same-length-2 Inv-loop μ-loop
-same-length-2 c = going (c .before .before .before .before .before .before .before .before) .long
+same-length-2 c = going (loop-of (c .before .before .before .before .before)) .long
 
 returns-2 : tie.Need-returns-2 Inv-loop μ-loop
 returns-2 c =
-    let line = c .before .before .before in
-    line-refused (going (loop-of line)) (here line) _ (c .before .fault .given .1)
+    let fault = c .before .before .before in
+    let line = fault .before .before in
+    line-refused (going (loop-of line)) (here line) _ _ (fault .fault .given .1) (column-here _ _ _ (line .before .before .before .find .ensures .0) _ (c .column .ensures))
 
 enum-told : tie.Need-enum-told Inv-loop μ-loop
 enum-told c = search needs
@@ -223,6 +242,8 @@ read-trace-spec =
     lines-requires
     loop-holds
     find-requires
+    sub-t28
+    add-t29
     same-length
     returns
     add-next
@@ -232,6 +253,10 @@ read-trace-spec =
     part-read-line-end
     read-line-requires
     enum-known-fault
+    sub-column
+    part-column-start
+    part-column-end
+    column-requires
     same-length-2
     returns-2
     enum-told

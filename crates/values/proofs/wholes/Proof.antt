@@ -15,7 +15,7 @@ others-requires : tie.Need-others-requires
 others-requires c κs = search needs
 
 returns-2 : tie.Need-returns-2
-returns-2 c = c .others .ensures ∙ not-three _ _ _ (c .before .if1 .left)
+returns-2 c = c .others .ensures ∙ not-three _ _ _ _ (c .before .if1 .left)
 
 pub wholes-spec : {M : Type 1} → statement M
 wholes-spec = tie.close (tie.spec three-requires returns others-requires returns-2)

@@ -49,25 +49,20 @@ enum-known-time c = search needs
 enum-told-3 : tie.Need-enum-told-3
 enum-told-3 c = search needs
 
-bad-stamp-requires : tie.Need-bad-stamp-requires
-bad-stamp-requires c κs = search needs
-
 returns-3 : tie.Need-returns-3
-unfolding readAs
+unfolding begunOf readAs
 returns-3 c =
-    let c₁ = c .before in
-    let enum-told3 = c₁ .enum-told3 .given .1 in
-    let c₃ = c₁ .before .before in
-    let value-at3 = c₃ .value-at3 .ensures in
-    let c₅ = c₃ .before .before in
-    let event = c₅ .event .given .1 in
-    let c₇ = c₅ .before .before in
-    let value-at2 = c₇ .value-at2 .ensures in
-    let c₉ = c₇ .before .before in
-    let kind = c₉ .kind .given .1 in
-    let c₁₁ = c₉ .before .before in
-    let value-at = c₁₁ .value-at .ensures in
-    instead (c .bad-stamp .ensures) (bad-time _ _ _ (got _ _ _ value-at _ _ kind) _ _ (got _ _ _ value-at2 _ _ event) (not-got _ _ _ value-at3 enum-told3))
+    let c₂ = c .before .before in
+    let value-at3 = c₂ .value-at3 .ensures in
+    let c₄ = c₂ .before .before in
+    let event = c₄ .event .given .1 in
+    let c₆ = c₄ .before .before in
+    let value-at2 = c₆ .value-at2 .ensures in
+    let c₈ = c₆ .before .before in
+    let kind = c₈ .kind .given .1 in
+    let c₁₀ = c₈ .before .before in
+    let value-at = c₁₀ .value-at .ensures in
+    without _ (bad-time _ _ _ (got _ _ _ value-at _ _ kind) _ _ (got _ _ _ value-at2 _ _ event) (not-got _ _ _ value-at3 (c .enum-told3 .given .1)))
 
 place-requires : tie.Need-place-requires
 place-requires c κs = search needs
@@ -107,7 +102,6 @@ six-spec =
     value-at-requires-3
     enum-known-time
     enum-told-3
-    bad-stamp-requires
     returns-3
     place-requires
     returns-4)

@@ -28,8 +28,8 @@ refused-requires c κs = search needs
 enum-told : tie.Need-enum-told
 enum-told c = search needs
 
-refused-requires-2 : tie.Need-refused-requires-2
-refused-requires-2 c κs = search needs
+refused-nowhere-requires : tie.Need-refused-nowhere-requires
+refused-nowhere-requires c κs = search needs
 
 same-length : tie.Need-same-length
 same-length c = search needs
@@ -58,7 +58,7 @@ conclude-spec =
     enum-known-reached-2
     refused-requires
     enum-told
-    refused-requires-2
+    refused-nowhere-requires
     same-length
     same-length-2
     returns

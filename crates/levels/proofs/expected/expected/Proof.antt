@@ -5,37 +5,23 @@ use Rattle.levels.proofs.Marks.{by-three}
 use Rattle.levels.proofs.expected.expected.Statement.{statement}
 use Rattle.levels.proofs.expected.expected.Tie as tie
 
-enum-told : tie.Need-enum-told
-enum-told c = search needs
-
 enum-known-values : tie.Need-enum-known-values
 enum-known-values c = search needs
 
 same-three-requires : tie.Need-same-three-requires
 same-three-requires c κs = search needs
 
-enum-told-2 : tie.Need-enum-told-2
-enum-told-2 c = search needs
+enum-told : tie.Need-enum-told
+enum-told c = search needs
 
 returns : tie.Need-returns
-unfolding levels.expected
-returns c = rw (c .enum-told .given .1)
+returns c = by-three _ (c .same-three .ensures) (c .before .before .values .given .1) (search needs) (search needs) (search needs)
 
 returns-2 : tie.Need-returns-2
-returns-2 c = by-three _ (c .same-three .ensures) (c .before .before .values .given .1) (search needs) (search needs) (search needs)
-
-returns-3 : tie.Need-returns-3
 unfolding levels.expected
-returns-3 c = rw (c .enum-told2 .given .1)
+returns-2 c = rw (c .enum-told .given .1)
 
 pub expected-spec : {M : Type 1} → statement M
 expected-spec =
     tie.close
-    (tie.spec
-    enum-told
-    enum-known-values
-    same-three-requires
-    enum-told-2
-    returns
-    returns-2
-    returns-3)
+    (tie.spec enum-known-values same-three-requires enum-told returns returns-2)

@@ -1,6 +1,6 @@
 -- `line::listed::place_of` meets its contract.
 use borrow.Author.Needs.{needs}
-use mathlib.Core.Path.{_≡_, refl, sym, ap, _∙_}
+use mathlib.Core.Path.{sym, _∙_}
 use mir.Facts.{toZ-ofZ}
 use Rattle.signed.specs.Naturals.{numberIn}
 use Rattle.line.proofs.Parts.{own-process, other-process}

@@ -1,7 +1,6 @@
 -- `line::listed::role_of` meets its contract.
 use borrow.Author.Needs.{needs}
-use Rattle.paper.specs.Line.{roleOf}
-use Rattle.line.specs.Sorting.{noteOf, castOf}
+use Rattle.line.specs.Sorting.{castOf}
 use Rattle.line.proofs.Parts.{role-neither, role-sends, no-send, role-receives, no-receive}
 use Rattle.line.proofs.listed.role_of.Statement.{statement}
 use Rattle.line.proofs.listed.role_of.Tie as tie

@@ -1,6 +1,6 @@
 -- `line::listed::three_noted` meets its contract.
 use borrow.Author.Needs.{needs}
-use mathlib.Core.Path.{_≡_, refl, sym, ap, _∙_}
+use mathlib.Core.Path.{sym, _∙_}
 use mir.Facts.{toZ-ofZ}
 use Rattle.line.specs.Sorting.{noteOf}
 use Rattle.line.proofs.Parts.{no-length, no-peer, good-message}

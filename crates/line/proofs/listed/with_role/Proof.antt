@@ -12,13 +12,16 @@ enum-known-cast c = search needs
 enum-told : tie.Need-enum-told
 enum-told c = search needs
 
+lacking-requires : tie.Need-lacking-requires
+lacking-requires c κs = search needs
+
 returns : tie.Need-returns
 unfolding castOf
 returns c = listed-with _ _ _ _ _ (search needs) (search needs) (search needs) (ap castOf (c .before .before .cast .given .1))
 
 returns-2 : tie.Need-returns-2
 unfolding castOf
-returns-2 c = not-with _ _ _ _ (ap castOf (c .enum-told .given .1))
+returns-2 c = not-with _ _ _ _ (ap castOf (c .before .enum-told .given .1)) (c .lacking .ensures)
 
 pub with-role-spec : {M : Type 1} → statement M
-with-role-spec = tie.close (tie.spec enum-known-cast enum-told returns returns-2)
+with-role-spec = tie.close (tie.spec enum-known-cast enum-told lacking-requires returns returns-2)

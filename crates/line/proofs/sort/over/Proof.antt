@@ -1,6 +1,6 @@
 -- `line::sort::over` meets its contract.
 use borrow.Author.Needs.{needs}
-use mathlib.Core.Path.{_≡_, refl, sym, ap, _∙_}
+use mathlib.Core.Path.{sym, _∙_}
 use Rattle.line.proofs.Sorts.{end-good, end-bad}
 use Rattle.line.proofs.sort.over.Statement.{statement}
 use Rattle.line.proofs.sort.over.Tie as tie

@@ -10,6 +10,9 @@ enum-known-solved c = search needs
 enum-told : tie.Need-enum-told
 enum-told c = search needs
 
+nowhere-requires : tie.Need-nowhere-requires
+nowhere-requires c κs = search needs
+
 enum-told-2 : tie.Need-enum-told-2
 enum-told-2 c = search needs
 
@@ -22,7 +25,7 @@ returns c = rw (c .before .solved .given .1)
 
 returns-2 : tie.Need-returns-2
 unfolding asReached
-returns-2 c = rw (c .enum-told .given .1)
+returns-2 c = rw (c .before .enum-told .given .1, c .nowhere .ensures)
 
 returns-3 : tie.Need-returns-3
 unfolding asReached
@@ -38,6 +41,7 @@ told-spec =
     (tie.spec
     enum-known-solved
     enum-told
+    nowhere-requires
     enum-told-2
     enum-known-solved-2
     returns

@@ -1,32 +1,33 @@
 -- `report::put::put_pair` meets its contract.
-use borrow.Author.Needs.{needs}
 use Rattle.paper.specs.Text.{bytesOf}
 use Rattle.report.specs.Told.{pairShown}
+use Rattle.report.proofs.Puts.{then}
+use borrow.Author.Needs.{needs}
 use Rattle.report.proofs.put.put_pair.Statement.{statement}
 use Rattle.report.proofs.put.put_pair.Tie as tie
 
-slice-aggregate-put-two : tie.Need-slice-aggregate-put-two
-slice-aggregate-put-two c = search needs
+slice-aggregate-put-named : tie.Need-slice-aggregate-put-named
+slice-aggregate-put-named c = search needs
 
-slice-aggregate-put-two-2 : tie.Need-slice-aggregate-put-two-2
-slice-aggregate-put-two-2 c = search needs
+put-named-requires : tie.Need-put-named-requires
+put-named-requires c κs = search needs
 
-put-two-requires : tie.Need-put-two-requires
-put-two-requires c κs = search needs
+slice-aggregate-put-numbered : tie.Need-slice-aggregate-put-numbered
+slice-aggregate-put-numbered c = search needs
+
+put-numbered-requires : tie.Need-put-numbered-requires
+put-numbered-requires c κs = search needs
 
 same-length : tie.Need-same-length
 same-length c = search needs
 
 returns : tie.Need-returns
 unfolding pairShown bytesOf
-returns c = c .before .before .put-two .ensures
+returns c =
+    let c₂ = c .before .before in
+    then (c₂ .before .before .before .before .before .put-named .ensures .put) (c₂ .put-numbered .ensures .put)
 
 pub put-pair-spec : {M : Type 1} → statement M
 put-pair-spec =
     tie.close
-    (tie.spec
-    slice-aggregate-put-two
-    slice-aggregate-put-two-2
-    put-two-requires
-    same-length
-    returns)
+    (tie.spec slice-aggregate-put-named put-named-requires slice-aggregate-put-numbered put-numbered-requires same-length returns)

@@ -1,2 +1,0 @@
--- What the functions of this crate tell each other.
-pub mod Values
