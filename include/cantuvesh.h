@@ -18,7 +18,7 @@
 extern "C" {
 #endif
 
-#define CANTUVESH_VERSION "0.4.0"
+#define CANTUVESH_VERSION "0.5.0"
 
 /* The sizes of a call. */
 #define CANTUVESH_TRACE_LIMIT 65536     /* the most bytes that a trace may have */
@@ -69,10 +69,24 @@ struct cantuvesh_asked {
 #define CANTUVESH_CORRECTED 2        /* messages matched, and some time moved */
 #define CANTUVESH_NOTHING_TO_JUDGE 3 /* no message matched */
 
-/* The answer. A refusal has its number and line, and 0 in all the rest. */
+/* The answer. A refusal has its number, line and column, and 0 in all the rest. Only 5 to 10 have a
+ * column other than 0. It is where the field that decides begins in its line, counted from 1 in bytes,
+ * whatever bytes they are:
+ *
+ *      5  one past the line's last byte, the LF not counted, where the LF or one of the first six fields
+ *         is missing; else the leftmost bad field, be it one too many; else, where a field is missing
+ *         behind the six, one past the line's last byte again
+ *      6  the timestamp
+ *      7  the record type if it is not listed, else the event type
+ *      8  the event type
+ *      9  the processor if it is outside 0 to 63, else the process
+ *     10  the data count if it is not 3, else the descriptor if it is not 2, else the first bad one of
+ *         length and processor
+ */
 struct cantuvesh_answer {
     uint64_t number;     /* 0 accepted, else the refusal below */
     uint64_t line;       /* the refused line, counted from 1; 0 where no line is meant */
+    uint64_t column;     /* the column of the field that decides, counted from 1; 0 where none is meant */
     uint64_t verdict;    /* one of the three above */
     uint64_t listed;     /* listed records: so many of the lent times are written */
     uint64_t passed;     /* lines passed over */

@@ -34,7 +34,7 @@ int main(void)
         room, sizeof room);
 
     if (answer.number != 0) {
-        printf("refused %" PRIu64 " line %" PRIu64 "\n", answer.number, answer.line);
+        printf("refused %" PRIu64 " line %" PRIu64 " column %" PRIu64 "\n", answer.number, answer.line, answer.column);
         return 1;
     }
     printf("verdict %s\n", verdicts[answer.verdict]);

@@ -29,7 +29,7 @@ from dataclasses import dataclass
 from pathlib import Path
 from typing import Literal, Tuple, Union
 
-VERSION = "0.4.0"  # of the library: another one's call may be another
+VERSION = "0.5.0"  # of the library: another one's call may be another
 TRACE_LIMIT = 65_536  # the most bytes that a trace may have
 PROCESSORS = 64  # processors are 0 to 63
 LATENCIES = PROCESSORS * PROCESSORS  # the exact number of latencies in a table
@@ -91,17 +91,24 @@ class Accepted:
 
 
 class Refused(Exception):
-    """The trace, or the whole call, is refused: `number` and `sentence` say why, and `line`, counted from 1, says where. It is 0
-    where the whole call is meant."""
+    """The trace, or the whole call, is refused: `number` and `sentence` say why, `line` and `column` say where.
 
-    def __init__(self, number: int, line: int) -> None:
-        super().__init__(number, line)
+    line    counted from 1; 0 where the whole call is meant
+    column  where the field that decides begins in the line, counted from 1 in bytes; one past the line's last byte where a field
+            or the LF is missing. The refusals 5 to 10 have it, and it is 0 for the others
+    """
+
+    def __init__(self, number: int, line: int, column: int) -> None:
+        super().__init__(number, line, column)
         self.number = number
         self.line = line
+        self.column = column
         self.sentence = _SENTENCES[number]
 
     def __str__(self) -> str:
         where = f" line {self.line}" if self.line else ""
+        if self.column:
+            where += f" column {self.column}"
         return f"refused {self.number}{where}: {self.sentence}"
 
 
@@ -162,7 +169,7 @@ def judge(
         text, len(text), latencies, len(latencies), asked, times, len(times), bool(written), room, len(room)
     )
     if answer.number != 0:
-        raise Refused(answer.number, answer.line)
+        raise Refused(answer.number, answer.line, answer.column)
     return Accepted(
         verdict=_VERDICTS[answer.verdict],
         listed=answer.listed,
@@ -225,7 +232,7 @@ class _Asked(ctypes.Structure):
 class _Answer(ctypes.Structure):
     _fields_ = [
         (name, ctypes.c_uint64)
-        for name in ("number", "line", "verdict", "listed", "passed", "matched", "unreceived", "rounds", "written")
+        for name in ("number", "line", "column", "verdict", "listed", "passed", "matched", "unreceived", "rounds", "written")
     ]
 
 

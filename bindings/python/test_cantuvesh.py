@@ -74,7 +74,7 @@ class Judging(unittest.TestCase):
         self.assertEqual((lenient.passed, lenient.times), (1, CORRECTED_A))
         with self.assertRaises(Refused) as raised:
             judge(trace, FIVES, choice="strict", levels="off")
-        self.assertEqual((raised.exception.number, raised.exception.line), (7, 6))
+        self.assertEqual((raised.exception.number, raised.exception.line, raised.exception.column), (7, 6, 1))
 
     def test_an_answer_stays_as_it_is(self):
         with self.assertRaises(FrozenInstanceError):
@@ -89,40 +89,57 @@ class Judging(unittest.TestCase):
 
 
 class Refusing(unittest.TestCase):
-    def refused(self, number, line, trace, latencies=ZEROS):
+    def refused(self, number, line, column, trace, latencies=ZEROS):
         with self.assertRaises(Refused) as raised:
             judge(trace, latencies, "strict", "off", written=True)
-        self.assertEqual((raised.exception.number, raised.exception.line), (number, line))
+        self.assertEqual((raised.exception.number, raised.exception.line, raised.exception.column), (number, line, column))
         return raised.exception
 
     def test_every_number_that_can_be_reached(self):
         """Not 1, since no other choice or switch gets as far as the call, and not 16, since there is always room; 17 is below."""
-        self.refused(2, 0, b"", ZEROS[1:])
-        self.refused(2, 0, b"", ZEROS + ZEROS)
-        self.refused(2, 0, b"", array("I"))
-        self.refused(3, 0, b"", ZEROS[1:] + array("I", [1_000_001]))
-        self.refused(4, 0, b"\n" * 65_537)
-        self.refused(5, 2, b"0 0 0.000000 0 0 0\nx\n")
-        self.refused(6, 1, b"0 0 -0.000000 0 0 0\n")
-        self.refused(7, 1, b"-5 0 0.000000 0 0 0\n")
-        self.refused(8, 1, b"0 -56 0.000000 0 0 0\n")
-        self.refused(9, 1, b"0 0 0.000000 64 0 0\n")
-        self.refused(10, 1, b"-3 -21 0.000000 0 0 0\n")
-        self.refused(11, 2, b"0 0 0.000001 0 0 0\n0 0 0.000000 0 0 0\n")
-        self.refused(12, 2_049, b"0 0 0.000000 0 0 0\n" * 2_049)
-        self.refused(13, 1, b"-4 -52 0.000000 1 0 3 2 8 1 0\n")
-        self.refused(14, 1, b"-4 -52 0.000000 1 0 3 2 8 1 0\n-3 -21 0.000000 0 0 3 2 7 1 1\n")
-        self.refused(15, 0, TRACE_B, table({(0, 1): 1}, default=0))
+        self.refused(2, 0, 0, b"", ZEROS[1:])
+        self.refused(2, 0, 0, b"", ZEROS + ZEROS)
+        self.refused(2, 0, 0, b"", array("I"))
+        self.refused(3, 0, 0, b"", ZEROS[1:] + array("I", [1_000_001]))
+        self.refused(4, 0, 0, b"\n" * 65_537)
+        self.refused(5, 2, 2, b"0 0 0.000000 0 0 0\nx\n")
+        self.refused(6, 1, 5, b"0 0 -0.000000 0 0 0\n")
+        self.refused(7, 1, 1, b"-5 0 0.000000 0 0 0\n")
+        self.refused(8, 1, 3, b"0 -56 0.000000 0 0 0\n")
+        self.refused(9, 1, 14, b"0 0 0.000000 64 0 0\n")
+        self.refused(10, 1, 21, b"-3 -21 0.000000 0 0 0\n")
+        self.refused(11, 2, 0, b"0 0 0.000001 0 0 0\n0 0 0.000000 0 0 0\n")
+        self.refused(12, 2_049, 0, b"0 0 0.000000 0 0 0\n" * 2_049)
+        self.refused(13, 1, 0, b"-4 -52 0.000000 1 0 3 2 8 1 0\n")
+        self.refused(14, 1, 0, b"-4 -52 0.000000 1 0 3 2 8 1 0\n-3 -21 0.000000 0 0 3 2 7 1 1\n")
+        self.refused(15, 0, 0, TRACE_B, table({(0, 1): 1}, default=0))
+
+    def test_columns(self):
+        """The first field, one in the middle, and the last; what is missing or too much; other fields of 7, 9 and 10."""
+        self.refused(5, 1, 1, b"x 0 0.000000 0 0 2 2 1 1\n")
+        self.refused(5, 1, 16, b"0 0 0.000000 0 x 2 2 1 1\n")
+        self.refused(5, 1, 24, b"0 0 0.000000 0 0 2 2 1 x\n")
+        self.refused(5, 1, 23, b"0 0 0.000000 0 0 2 2 1\n")
+        self.refused(5, 1, 26, b"0 0 0.000000 0 0 2 2 1 1 1\n")
+        self.refused(5, 1, 6, b"0 0 x\n")
+        self.refused(5, 2, 12, b"0 0 0.000000 0 0 0\n0 0 x 0 0 0")
+        self.refused(7, 1, 3, b"0 -1 0.000000 0 0 0\n")
+        self.refused(9, 1, 16, b"0 0 0.000000 0 1 0\n")
+        self.refused(10, 1, 23, b"-3 -21 0.000000 0 0 3 5 0.000000 0.000000 0.000000\n")
+        self.refused(10, 1, 25, b"-3 -21 0.000000 0 0 3 2 -8 1 64\n")
+        self.refused(10, 1, 29, b"-3 -21 0.000000 0 0 3 2 8 1 64\n")
 
     def test_what_a_refusal_says(self):
-        of_a_line = self.refused(13, 1, b"-4 -52 0.000000 1 0 3 2 8 1 0\n")
+        of_a_field = self.refused(6, 1, 5, b"0 0 -0.000000 0 0 0\n")
+        self.assertEqual(str(of_a_field), "refused 6 line 1 column 5: the form of the timestamp is bad")
+        of_a_line = self.refused(13, 1, 0, b"-4 -52 0.000000 1 0 3 2 8 1 0\n")
         self.assertEqual(of_a_line.sentence, "the receive has no matching send")
         self.assertEqual(str(of_a_line), "refused 13 line 1: the receive has no matching send")
-        self.assertEqual(str(self.refused(2, 0, b"", array("I"))), "refused 2: the table or the lent times have the wrong length")
+        self.assertEqual(str(self.refused(2, 0, 0, b"", array("I"))), "refused 2: the table or the lent times have the wrong length")
 
     def test_a_refusal_comes_whole_from_another_process(self):
-        copy = pickle.loads(pickle.dumps(Refused(7, 25)))
-        self.assertEqual((copy.number, copy.line, str(copy)), (7, 25, str(Refused(7, 25))))
+        copy = pickle.loads(pickle.dumps(Refused(7, 25, 1)))
+        self.assertEqual((copy.number, copy.line, copy.column, str(copy)), (7, 25, 1, str(Refused(7, 25, 1))))
 
     def test_a_choice_has_to_be_named(self):
         with self.assertRaises(TypeError):
@@ -151,7 +168,7 @@ class Levels(unittest.TestCase):
     def refused(self, line, lines, levels):
         with self.assertRaises(Refused) as raised:
             judge(b"".join(lines), ZEROS, "strict", levels)
-        self.assertEqual((raised.exception.number, raised.exception.line), (17, line))
+        self.assertEqual((raised.exception.number, raised.exception.line, raised.exception.column), (17, line, 0))
 
     def test_levels_that_are_not(self):
         self.refused(3, [self.GOOD, self.OTHER, self.EVENT, self.ELSEWHERE], self.EXPECTED)
@@ -176,6 +193,14 @@ class Levels(unittest.TestCase):
         asked = cantuvesh._Asked
         places = [getattr(asked, name).offset for name in ("choice", "levels", "picl", "user", "trace")]
         self.assertEqual((places, ctypes.sizeof(asked)), ([0, 4, 8, 16, 24], 32))
+
+
+class Answers(unittest.TestCase):
+    def test_an_answer_has_the_places_of_c(self):
+        answer = cantuvesh._Answer
+        names = ("number", "line", "column", "verdict", "listed", "passed", "matched", "unreceived", "rounds", "written")
+        self.assertEqual([getattr(answer, name).offset for name in names], list(range(0, 80, 8)))
+        self.assertEqual(ctypes.sizeof(answer), 80)
 
 
 class Buffers(unittest.TestCase):

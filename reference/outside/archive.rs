@@ -10,14 +10,19 @@ pub fn judge(call: Inputs) -> Answer {
 
 /// Judges a trace by one library or another.
 pub fn judge_by(library: Library, call: Inputs) -> Answer {
-    let Inputs { trace: bytes, latencies, asked, times, wanted, room } = call;
+    let Inputs { trace, latencies, asked, times, wanted, room } = call;
+    answer_of(library.judge(trace, latencies, asked_of(asked), times, wanted, room))
+}
+
+/// What the reference is asked as the library is.
+pub fn asked_of(asked: Asked) -> raw::Asked {
     let Asked { choice, levels, picl, user, trace } = asked;
-    let asked = raw::Asked { choice, levels, picl, user, trace };
-    answer_of(library.judge(bytes, latencies, asked, times, wanted, room))
+    raw::Asked { choice, levels, picl, user, trace }
 }
 
 /// The library's answer as the reference's.
-pub fn answer_of(given: raw::Answer) -> Answer {
-    let raw::Answer { number, line, verdict, listed, passed, matched, unreceived, rounds, written } = given;
-    Answer { number, line, verdict, listed, passed, matched, unreceived, rounds, written }
+fn answer_of(given: raw::Answer) -> Answer {
+    let raw::Answer { number, line, column, verdict, listed, passed, matched, unreceived, rounds, written } =
+        given;
+    Answer { number, line, column, verdict, listed, passed, matched, unreceived, rounds, written }
 }

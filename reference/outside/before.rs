@@ -14,6 +14,11 @@ pub fn knows(_: Asked) -> bool {
     true
 }
 
+/// What of an answer the older library tells.
+pub fn tells(answer: Answer) -> Answer {
+    answer
+}
+
 /// Judges a trace by the older library.
 pub fn judge(call: Inputs) -> Answer {
     // SAFETY: this is the function of an older library with the same C call.

@@ -58,9 +58,9 @@ fn measure(workload: &Workload, time: Duration) -> Result<Row, String> {
 
 fn described(workload: &Workload, answer: &Answer) -> String {
     let bytes = workload.trace.len();
-    let Answer { number, line, listed, passed, matched, rounds, .. } = answer;
+    let Answer { number, line, column, listed, passed, matched, rounds, .. } = answer;
     match number {
         0 => format!("{bytes} bytes, listed {listed}, passed {passed}, matched {matched}, rounds {rounds}"),
-        _ => format!("{bytes} bytes, refused {number} line {line}"),
+        _ => format!("{bytes} bytes, refused {number} line {line} column {column}"),
     }
 }

@@ -5,9 +5,13 @@
 #[path = "archive.rs"]
 mod archive;
 #[cfg(feature = "before")]
-#[cfg_attr(not(feature = "before-levels"), path = "before.rs")]
+#[cfg_attr(not(feature = "before-column"), path = "before.rs")]
+#[cfg_attr(all(feature = "before-column", not(feature = "before-levels")), path = "before_column.rs")]
 #[cfg_attr(feature = "before-levels", path = "before_levels.rs")]
 mod before;
+#[cfg(feature = "before-column")]
+#[path = "without_column.rs"]
+mod without_column;
 
 use crate::turns::Sides;
 use reference::generator::workload::Workload;
@@ -17,12 +21,24 @@ use std::time::{Duration, Instant};
 /// A sample is so many calls that it takes about this long.
 const SAMPLE: Duration = Duration::from_micros(500);
 
-pub type Judge = fn(Inputs) -> Answer;
+/// Who judges, and what of an answer it tells.
+#[derive(Clone, Copy)]
+pub struct Judge {
+    judge: fn(Inputs) -> Answer,
+    tells: fn(Answer) -> Answer,
+}
+
+impl Judge {
+    /// One that tells all of it.
+    fn of(judge: fn(Inputs) -> Answer) -> Judge {
+        Judge { judge, tells: |answer| answer }
+    }
+}
 
 /// The older library, if it can be asked what this workload asks.
 #[cfg(feature = "before")]
 fn before(workload: &Workload) -> Option<Judge> {
-    before::knows(workload.asked).then_some(before::judge)
+    before::knows(workload.asked).then_some(Judge { judge: before::judge, tells: before::tells })
 }
 #[cfg(not(feature = "before"))]
 fn before(_: &Workload) -> Option<Judge> {
@@ -31,7 +47,7 @@ fn before(_: &Workload) -> Option<Judge> {
 
 /// Who judges a workload.
 pub fn judges(workload: &Workload) -> Sides<Judge> {
-    Sides { ours: archive::judge, before: before(workload), reference: judge }
+    Sides { ours: Judge::of(archive::judge), before: before(workload), reference: Judge::of(judge) }
 }
 
 /// A workload that is judged again and again.
@@ -41,7 +57,7 @@ pub struct Calls<'a> {
     room: Vec<u8>,
     /// So many calls are a sample.
     many: u32,
-    /// What every side answers.
+    /// What every side answers, as far as it tells it.
     pub expected: Answer,
 }
 
@@ -53,9 +69,9 @@ impl<'a> Calls<'a> {
         let sides = judges(workload);
         calls.expected = calls.call(sides.reference);
         for (side, &held) in sides.held_to_it() {
-            let given = calls.call(held);
-            if given != calls.expected {
-                let (name, expected) = (workload.name, calls.expected);
+            let (given, expected) = (calls.call(held), (held.tells)(calls.expected));
+            if given != expected {
+                let name = workload.name;
                 return Err(format!(
                     "{name}: answers differ, {side} and reference:\n  {given:?}\n  {expected:?}"
                 ));
@@ -70,7 +86,7 @@ impl<'a> Calls<'a> {
     fn call(&mut self, judge: Judge) -> Answer {
         let &Workload { asked, ref trace, ref latencies, wanted, .. } = self.workload;
         let (times, room) = (&mut self.times, &mut self.room);
-        judge(Inputs { trace, latencies, asked, times, wanted, room })
+        (judge.judge)(Inputs { trace, latencies, asked, times, wanted, room })
     }
 
     /// The microseconds of one call, by a sample of calls.

@@ -31,7 +31,7 @@ pub fn check(records: &[Record], expected: Levels) -> Result<(), Refusal> {
         *last = Some(Last { line: record.line, levels });
     }
     match last_of.into_iter().flatten().find(|last| last.levels != Some(expected)) {
-        Some(Last { line, .. }) => Err(Refusal { number: LEVELS, line }),
+        Some(Last { line, .. }) => Err(Refusal::of_line(LEVELS, line)),
         None => Ok(()),
     }
 }

@@ -1,15 +1,17 @@
-//! Document 01 and requests 1 and 2 of document 02 in plain Rust: one trace in; verdict, counts,
+//! Document 01 and requests 1 to 5 of document 02 in plain Rust: one trace in; verdict, counts,
 //! corrected times and the corrected trace out.
 //!
 //! Written from the papers alone, to be held against the proved library (`outside/compare.rs`) and
-//! measured beside it (`outside/bench.rs`). The modules follow the papers' order: [`form`] and
-//! [`line`] are "One line, one record" and request 2, [`trace`] reads line after line, [`levels`] is
-//! request 1, [`message`] and [`clock`] are "Matching and the clock condition", [`report`] is what the
-//! program prints.
+//! measured beside it (`outside/bench.rs`). The modules follow the papers' order: [`form`],
+//! [`field`] and [`line`] are "One line, one record" and requests 2 and 5, [`trace`] reads line after line,
+//! [`levels`] is request 1, [`message`] and [`clock`] are "Matching and the clock condition" and request 4,
+//! [`report`] is what the program prints. Request 3 asks for speed alone.
 
 #![forbid(unsafe_code)]
 
 pub mod clock;
+pub mod deciding;
+pub mod field;
 pub mod form;
 pub mod generator;
 pub mod levels;
@@ -36,13 +38,16 @@ pub const MAX_RECORDS: usize = 2_048;
 /// The highest time, in microseconds; the lowest is its negative.
 pub const MAX_TIME: i64 = 999_999_999_999_999;
 
-/// What a caller gets back: the paper's nine numbers.
+/// What a caller gets back: the papers' ten numbers.
 #[derive(Clone, Copy, Debug, Default, PartialEq, Eq)]
 pub struct Answer {
     /// 0 for an accepted trace, else the refusal.
     pub number: u64,
     /// The line that the refusal means, counted from 1; 0 for none.
     pub line: u64,
+    /// The column at which the field begins that a refusal from 5 to 10 means, counted from 1 in bytes; one
+    /// past the line's last byte where a field or the LF is missing. 0 for none.
+    pub column: u64,
     /// 1 consistent, 2 corrected, 3 nothing to judge; 0 if refused.
     pub verdict: u64,
     pub listed: u64,
@@ -120,7 +125,12 @@ impl Inputs<'_> {
 /// Judges a trace. An accepted one leaves the corrected times in the first places of `times` and, if
 /// `wanted`, the written trace at the start of `room`; a refusal touches neither.
 pub fn judge(call: Inputs) -> Answer {
-    accept(call).unwrap_or_else(|Refusal { number, line }| Answer { number, line, ..Answer::default() })
+    accept(call).unwrap_or_else(|Refusal { number, line, column }| Answer {
+        number,
+        line,
+        column,
+        ..Answer::default()
+    })
 }
 
 fn accept(call: Inputs) -> Result<Answer, Refusal> {
@@ -162,6 +172,7 @@ fn accept(call: Inputs) -> Result<Answer, Refusal> {
     Ok(Answer {
         number: 0,
         line: 0,
+        column: 0,
         verdict,
         listed: records.len() as u64,
         passed,

@@ -1,8 +1,9 @@
 //! One line: refused, passed over or a listed record. The checks stand in document 01's order.
 
+use crate::field::{self, Field};
 use crate::form::{time, whole};
 use crate::levels::Levels;
-use crate::refusal::{FORM, MESSAGE, NOT_HANDLED, PLACE, TIMESTAMP, UNLISTED};
+use crate::refusal::{FORM, Fault, MESSAGE, NOT_HANDLED, PLACE, TIMESTAMP, UNLISTED};
 use crate::{Choice, PROCESSORS};
 use std::ops::Range;
 
@@ -60,101 +61,136 @@ pub fn standing(event: i64) -> Standing {
     }
 }
 
-/// Reads one line, without its LF. The error is the refusal's number, 5 to 10.
-pub fn read(line: &[u8], choice: Choice) -> Result<Line, u64> {
-    let mut parts = line.splitn(7, |&byte| byte == b' ');
-    let mut field = || parts.next().ok_or(FORM);
-    let fields = [field()?, field()?, field()?, field()?, field()?, field()?];
-    // What follows the space after field six; none if the line ends without one.
-    let rest = parts.next();
+/// Reads one line, without its LF.
+pub fn read(line: &[u8], choice: Choice) -> Result<Line, Fault> {
+    let missing = field::missing(line);
+    let mut rest = field::fields(line);
+    let mut next = || rest.next().ok_or(missing);
+    let six = [next()?, next()?, next()?, next()?, next()?, next()?];
 
-    let record_type = whole(fields[0]).ok_or(FORM)?;
-    let event = whole(fields[1]).ok_or(FORM)?;
-    let time = time(fields[2]).ok_or(TIMESTAMP)?;
-    let processor = whole(fields[3]).ok_or(FORM)?;
-    let process = whole(fields[4]).ok_or(FORM)?;
-    let count = whole(fields[5]).filter(|count| (0..=999).contains(count)).ok_or(FORM)?;
+    let record_type = six[0].read(whole, FORM)?;
+    let event = six[1].read(whole, FORM)?;
+    let time = six[2].read(time, TIMESTAMP)?;
+    let processor = six[3].read(whole, FORM)?;
+    let process = six[4].read(whole, FORM)?;
+    let count = six[5].read(stated, FORM)?;
 
-    if !matches!(record_type, -4..=-2 | 0) {
-        return unlisted(count, rest, choice);
+    // The field that makes the line unlisted, if one does: of two the record type.
+    let unlisted = match (record_type, standing(event)) {
+        (-4..=-2 | 0, Standing::Listed) => None,
+        (-4..=-2 | 0, Standing::NotHandled) => return Err(six[1].refused(NOT_HANDLED)),
+        (-4..=-2 | 0, Standing::Unlisted) => Some(six[1]),
+        _ => Some(six[0]),
+    };
+    if let Some(field) = unlisted {
+        end_of_unlisted(count, rest.next(), missing)?;
+        return match choice {
+            Choice::Strict => Err(field.refused(UNLISTED)),
+            Choice::Lenient => Ok(Line::Passed),
+        };
     }
-    match standing(event) {
-        Standing::Listed => {}
-        Standing::NotHandled => return Err(NOT_HANDLED),
-        Standing::Unlisted => return unlisted(count, rest, choice),
-    }
 
-    let processor = on_machine(processor).ok_or(PLACE)?;
+    let processor = on_machine(processor).ok_or(six[3].refused(PLACE))?;
     if process != 0 {
-        return Err(PLACE);
+        return Err(six[4].refused(PLACE));
     }
-    let data = data(count, rest).ok_or(FORM)?;
+    if count > 16 {
+        return Err(six[5].refused(FORM));
+    }
+    let data = Data::read(count, rest, missing)?;
     // A send is where it begins and a receive where it is complete: -59 found that it is not, and what
     // tells of a send's end tells of no arrival.
     let role = match (record_type, event) {
-        (-3, -21 | -27) => Role::Send(message(&data).ok_or(MESSAGE)?),
-        (-4, -51 | -52 | -58 | -60 | -61) => Role::Receive(message(&data).ok_or(MESSAGE)?),
+        (-3, -21 | -27) => Role::Send(message(six[5], &data)?),
+        (-4, -51 | -52 | -58 | -60 | -61) => Role::Receive(message(six[5], &data)?),
         _ => Role::Local,
     };
     let levels = match (record_type, event) {
-        (-2, -904) => three_wholes(&data).map(|[picl, user, trace]| Levels { picl, user, trace }),
+        (-2, -904) => data.levels(),
         _ => None,
     };
-    let start = fields[0].len() + 1 + fields[1].len() + 1;
-    let stamp = start..start + fields[2].len();
+    let start = six[2].column as usize - 1;
+    let stamp = start..start + six[2].text.len();
     Ok(Line::Listed(Record { processor, time, stamp, role, levels }))
 }
 
-/// An unlisted line with data has a space and at least one more byte after its six fields.
-fn unlisted(count: i64, rest: Option<&[u8]>, choice: Choice) -> Result<Line, u64> {
-    let good_end = match rest {
-        None => count == 0,
-        Some(rest) => count > 0 && !rest.is_empty(),
-    };
-    match (good_end, choice) {
-        (false, _) => Err(FORM),
-        (true, Choice::Strict) => Err(UNLISTED),
-        (true, Choice::Lenient) => Ok(Line::Passed),
+/// The number of data fields, as any line may state it.
+fn stated(field: &[u8]) -> Option<i64> {
+    whole(field).filter(|count| (0..=999).contains(count))
+}
+
+/// An unlisted line with data has a space and at least one more byte after its six fields; one without has
+/// no seventh field.
+fn end_of_unlisted(count: i64, seventh: Option<Field>, missing: Fault) -> Result<(), Fault> {
+    match seventh {
+        None if count > 0 => Err(missing),
+        Some(surplus) if count == 0 => Err(surplus.refused(FORM)),
+        // A lone space, so that nothing stands where this field begins.
+        Some(empty) if empty.column == missing.column => Err(missing),
+        _ => Ok(()),
     }
 }
 
-/// The data of a listed record, by its descriptor.
-enum Data {
-    None,
-    Wholes(Vec<i64>),
-    Times,
+/// What a listed record has behind its six fields.
+struct Data<'a> {
+    /// None where there are no data.
+    descriptor: Option<Field<'a>>,
+    /// Each datum, and what it says in the form that the descriptor names.
+    values: Vec<(Field<'a>, i64)>,
 }
 
-fn data(count: i64, rest: Option<&[u8]>) -> Option<Data> {
-    let Some(rest) = rest else {
-        return (count == 0).then_some(Data::None);
-    };
-    let mut fields = rest.split(|&byte| byte == b' ');
-    let form = match fields.next() {
-        Some(b"2") => whole,
-        Some(b"5") => time,
-        _ => return None,
-    };
-    let values = fields.map(form).collect::<Option<Vec<i64>>>()?;
-    if !(1..=16).contains(&count) || values.len() as i64 != count {
-        return None;
+impl<'a> Data<'a> {
+    /// Descriptor and data from left to right, exactly as many as stated.
+    fn read(
+        count: i64,
+        mut rest: impl Iterator<Item = Field<'a>>,
+        missing: Fault,
+    ) -> Result<Data<'a>, Fault> {
+        let mut data = Data { descriptor: None, values: Vec::new() };
+        if count > 0 {
+            let descriptor = rest.next().ok_or(missing)?;
+            let form = match descriptor.text {
+                b"2" => whole,
+                b"5" => time,
+                _ => return Err(descriptor.refused(FORM)),
+            };
+            data.descriptor = Some(descriptor);
+            for _ in 0..count {
+                let datum = rest.next().ok_or(missing)?;
+                data.values.push((datum, datum.read(form, FORM)?));
+            }
+        }
+        match rest.next() {
+            Some(surplus) => Err(surplus.refused(FORM)),
+            None => Ok(data),
+        }
     }
-    Some(if rest[0] == b'2' { Data::Wholes(values) } else { Data::Times })
-}
 
-/// Three data under descriptor 2.
-fn three_wholes(data: &Data) -> Option<[i64; 3]> {
-    match data {
-        Data::Wholes(values) => values.as_slice().try_into().ok(),
-        _ => None,
+    /// The three levels of a mark that counts.
+    fn levels(&self) -> Option<Levels> {
+        match (self.descriptor?.text, &self.values[..]) {
+            (b"2", &[(_, picl), (_, user), (_, trace)]) => Some(Levels { picl, user, trace }),
+            _ => None,
+        }
     }
 }
 
-/// Length, message type and partner.
-fn message(data: &Data) -> Option<Message> {
-    let [length, kind, partner] = three_wholes(data)?;
-    let partner = on_machine(partner)?;
-    (length >= 0).then_some(Message { length, kind, partner })
+/// Length, message type and partner. "For 10 it is the data count's if that is wrong, else the descriptor's
+/// if it isn't 2, else the first bad datum's."
+fn message(count: Field, data: &Data) -> Result<Message, Fault> {
+    let (Some(descriptor), &[(first, length), (_, kind), (third, partner)]) =
+        (data.descriptor, &data.values[..])
+    else {
+        return Err(count.refused(MESSAGE));
+    };
+    if descriptor.text != b"2" {
+        return Err(descriptor.refused(MESSAGE));
+    }
+    if length < 0 {
+        return Err(first.refused(MESSAGE));
+    }
+    let partner = on_machine(partner).ok_or(third.refused(MESSAGE))?;
+    Ok(Message { length, kind, partner })
 }
 
 fn on_machine(processor: i64) -> Option<usize> {

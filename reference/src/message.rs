@@ -30,7 +30,7 @@ pub fn pair(records: &[Record]) -> Result<Messages, Refusal> {
     let mut matched = 0;
     for (place, record) in records.iter().enumerate() {
         if let Role::Receive(message) = record.role {
-            let refused = |number| Refusal { number, line: record.line };
+            let refused = |number| Refusal::of_line(number, record.line);
             let channel = (message.partner, record.processor, message.kind);
             let send = sends.get_mut(&channel).and_then(VecDeque::pop_front);
             let (send, length) = send.ok_or(refused(UNMATCHED))?;

@@ -1,4 +1,4 @@
-//! Document 01's "Numbers a caller gets back", and 17 of document 02.
+//! Document 01's "Numbers a caller gets back", with 17 and the column of document 02.
 
 pub const ASKED: u64 = 1;
 pub const LENGTH: u64 = 2;
@@ -18,16 +18,37 @@ pub const NO_TIMES: u64 = 15;
 pub const ROOM: u64 = 16;
 pub const LEVELS: u64 = 17;
 
-/// A refusal with its line, 0 for none.
+/// A refusal with its line and its column, both counted from 1, 0 for none.
 #[derive(Clone, Copy, Debug, PartialEq, Eq)]
 pub struct Refusal {
     pub number: u64,
     pub line: u64,
+    pub column: u64,
 }
 
 impl Refusal {
     /// A refusal that means no line.
     pub fn of_all(number: u64) -> Refusal {
-        Refusal { number, line: 0 }
+        Refusal::of_line(number, 0)
+    }
+
+    /// A refusal that means a line, and no field of it.
+    pub fn of_line(number: u64, line: u64) -> Refusal {
+        Refusal { number, line, column: 0 }
+    }
+}
+
+/// What is wrong with one line, 5 to 10, and the column of the field that decides.
+#[derive(Clone, Copy, Debug, PartialEq, Eq)]
+pub struct Fault {
+    pub number: u64,
+    pub column: u64,
+}
+
+impl Fault {
+    /// The refusal, once it is known which line it was.
+    pub fn in_line(self, line: u64) -> Refusal {
+        let Fault { number, column } = self;
+        Refusal { number, line, column }
     }
 }

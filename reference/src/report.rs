@@ -11,7 +11,7 @@ pub fn report(answer: &Answer) -> String {
         1 => "consistent",
         2 => "corrected",
         3 => "nothing to judge",
-        _ => return format!("refused {} line {}\n", answer.number, answer.line),
+        _ => return refused(answer),
     };
     let Answer { listed, passed, matched, unreceived, rounds, .. } = answer;
     format!(
@@ -22,4 +22,9 @@ pub fn report(answer: &Answer) -> String {
          unreceived {unreceived}\n\
          rounds {rounds}\n"
     )
+}
+
+/// The one line on a refusal, whichever it is: where no line or no column is meant, it is 0.
+fn refused(Answer { number, line, column, .. }: &Answer) -> String {
+    format!("refused {number} line {line} column {column}\n")
 }

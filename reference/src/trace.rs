@@ -1,9 +1,10 @@
 //! The lines of a trace one after the other, and the trace written again with other times.
 
+use crate::field;
 use crate::form::write_time;
 use crate::levels::Levels;
 use crate::line::{self, Line, Role};
-use crate::refusal::{FORM, ORDER, RECORDS, Refusal};
+use crate::refusal::{ORDER, RECORDS, Refusal};
 use crate::{Choice, MAX_RECORDS, PROCESSORS};
 use std::ops::Range;
 
@@ -35,9 +36,10 @@ pub fn read(trace: &[u8], choice: Choice) -> Result<Listing, Refusal> {
     let mut last: [Option<i64>; PROCESSORS] = [None; PROCESSORS];
     let mut start = 0;
     for (text, number) in trace.split_inclusive(|&byte| byte == b'\n').zip(1..) {
-        let refused = |refusal| Refusal { number: refusal, line: number };
-        let text_without_end = text.strip_suffix(b"\n").ok_or(refused(FORM))?;
-        match line::read(text_without_end, choice).map_err(refused)? {
+        let refused = |refusal| Refusal::of_line(refusal, number);
+        let without_end = text.strip_suffix(b"\n").ok_or(field::missing(text));
+        let read = without_end.and_then(|line| line::read(line, choice));
+        match read.map_err(|fault| fault.in_line(number))? {
             Line::Passed => passed += 1,
             Line::Listed(line::Record { processor, time, stamp, role, levels }) => {
                 if last[processor].is_some_and(|last| time < last) {

@@ -1,6 +1,7 @@
 //! One judge held against another on a case: the answer, and every place of what was lent, the
 //! untouched ones and those around them among them.
 
+use crate::deciding::{self, deciding};
 use crate::generator::Case;
 use crate::generator::stroke::{self, LONGEST_START};
 use crate::line::Role;
@@ -149,6 +150,8 @@ pub struct Tally {
     pub quick: u64,
     /// Traces with one line that is one byte off a good one, in calls that come to reading lines.
     pub one_byte_off: u64,
+    /// What the columns meant, each as [`deciding`] calls it.
+    pub columns: BTreeMap<String, u64>,
     pub kinds: BTreeMap<&'static str, u64>,
 }
 
@@ -167,7 +170,18 @@ impl Tally {
         self.short_receives += u64::from(answer.matched > 0 && has_short_receive(&case.trace));
         self.quick += u64::from(answer.number == 0 && is_mostly_far_from_end(&case.trace));
         self.one_byte_off += u64::from(case.kind == stroke::KIND && !matches!(answer.number, 1..=4));
+        if let Some(meant) = deciding(&case.trace, answer) {
+            *self.columns.entry(meant).or_default() += 1;
+        }
         *self.kinds.entry(case.kind).or_default() += 1;
+    }
+
+    /// All that a column can mean, and how often it did.
+    fn columns(&self) -> impl Iterator<Item = (String, u64)> {
+        deciding::all().into_iter().map(|meant| {
+            let times = self.columns.get(&meant).copied().unwrap_or_default();
+            (meant, times)
+        })
     }
 
     /// What came up less often than a run of 200,000 cases must show.
@@ -186,10 +200,12 @@ impl Tally {
         // What a quick reader takes and what it must not take, each in a tenth of the cases.
         let good_or_nearly = [("quick", self.quick), ("one byte off", self.one_byte_off)]
             .map(|(name, times)| (name.to_string(), times, 20_000));
+        let columns = self.columns().map(|(meant, times)| (format!("column of {meant}"), times, 50));
         numbers
             .chain(verdicts)
             .chain(kinds_of_accepted)
             .chain(good_or_nearly)
+            .chain(columns)
             .filter(|&(_, times, floor)| times < floor)
             .map(|(name, times, floor)| format!("{name} came up {times} times, {floor} are asked"))
             .collect()
@@ -211,6 +227,10 @@ impl fmt::Display for Tally {
         writeln!(out, "nonblocking    {:>8}", self.nonblocking)?;
         writeln!(out, "short receives {:>8}", self.short_receives)?;
         writeln!(out, "quick          {:>8}", self.quick)?;
-        writeln!(out, "one byte off   {:>8}", self.one_byte_off)
+        writeln!(out, "one byte off   {:>8}", self.one_byte_off)?;
+        for (meant, times) in self.columns() {
+            writeln!(out, "column of {meant:<26}{times:>8}")?;
+        }
+        Ok(())
     }
 }

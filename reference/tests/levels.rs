@@ -166,18 +166,18 @@ fn before_13_to_16() {
 
 #[test]
 fn after_every_bad_line() {
-    assert_eq!(ones(&["-3 5 T 0 0 0", "x"]), (5, 2));
-    assert_eq!(ones(&["-3 5 T 0 0 0", "-3 5 1 0 0 0"]), (6, 2));
-    assert_eq!(ones(&[BAD, "-5 5 T 0 0 0"]), (7, 2));
-    assert_eq!(ones(&[BAD, "-2 -62 T 0 0 0"]), (8, 2));
-    assert_eq!(ones(&[BAD, "-2 -904 T 64 0 3 2 1 1 1"]), (9, 2));
-    assert_eq!(ones(&[BAD, "-3 -21 T 0 0 0"]), (10, 2));
+    assert_eq!(ones(&["-3 5 T 0 0 0", "x^"]), (5, 2));
+    assert_eq!(ones(&["-3 5 T 0 0 0", "-3 5 ^1 0 0 0"]), (6, 2));
+    assert_eq!(ones(&[BAD, "^-5 5 T 0 0 0"]), (7, 2));
+    assert_eq!(ones(&[BAD, "-2 ^-62 T 0 0 0"]), (8, 2));
+    assert_eq!(ones(&[BAD, "-2 -904 T ^64 0 3 2 1 1 1"]), (9, 2));
+    assert_eq!(ones(&[BAD, "-3 -21 T 0 0 ^0"]), (10, 2));
     assert_eq!(ones(&[BAD, "-2 -904 -0.000001 0 0 3 2 1 1 1"]), (11, 2));
     assert_eq!(ones(&[BAD; MAX_RECORDS]), (17, 2_048));
     assert_eq!(ones(&[BAD; MAX_RECORDS + 1]), (12, 2_049));
     // A -904 mark has to be good in form, as every record has.
-    assert_eq!(ones(&["-2 -904 T 0 0 3 2 1 1"]), (5, 1));
-    assert_eq!(ones(&["-2 -904 T 0 0 3 2 1 1 01"]), (5, 1));
+    assert_eq!(ones(&["-2 -904 T 0 0 3 2 1 1^"]), (5, 1));
+    assert_eq!(ones(&["-2 -904 T 0 0 3 2 1 1 ^01"]), (5, 1));
 }
 
 #[test]

@@ -16,7 +16,7 @@ fn neither() -> Vec<String> {
     starts.filter(|start| !SENDS.contains(&start.as_str()) && !RECEIVES.contains(&start.as_str())).collect()
 }
 
-/// Number and line of these lines, which are the same under both choices.
+/// Number and line of these lines, which are the same under both choices; a caret marks the column.
 #[track_caller]
 fn both(lines: &[&str]) -> (u64, u64) {
     let strict = number(trace(lines), STRICT);
@@ -40,22 +40,23 @@ fn a_message_has_three_data() {
     for start in SENDS.into_iter().chain(RECEIVES) {
         let of = |data: &str| both(&[&format!("{start} T 0 0 {data}")]);
         for data in [
-            "0",
-            "1 2 8",
-            "2 2 8 1",
-            "4 2 8 1 1 0",
-            "5 2 8 1 1 0 0",
-            "3 5 0.000008 0.000001 0.000001",
-            "3 2 -1 1 1",
-            "3 2 8 1 64",
-            "3 2 8 1 -1",
-            "3 2 8 1 999999999",
+            "^0",
+            "^1 2 8",
+            "^2 2 8 1",
+            "^4 2 8 1 1 0",
+            "^5 2 8 1 1 0 0",
+            "3 ^5 0.000008 0.000001 0.000001",
+            "3 2 ^-1 1 1",
+            "3 2 8 1 ^64",
+            "3 2 8 1 ^-1",
+            "3 2 8 1 ^999999999",
         ] {
             assert_eq!(of(data), (10, 1), "{start} {data}");
         }
-        for data in
-            ["3 2 8 x 1", "3 2 8 1", "3 2 8 1 1 0", "4 2 8 1 1", "3 3 8 1 1", "3 02 8 1 1", "17 2 8 1 1"]
-        {
+        for data in [
+            "3 2 8 ^x 1", "3 2 8 1^", "3 2 8 1 1 ^0", "4 2 8 1 1^", "3 ^3 8 1 1", "3 ^02 8 1 1",
+            "^17 2 8 1 1",
+        ] {
             assert_eq!(of(data), (5, 1), "{start} {data}");
         }
     }
@@ -73,15 +74,15 @@ fn a_message_has_three_data() {
 fn refusal_10_has_its_place_among_the_others() {
     for start in ["-3 -27", "-4 -58", "-4 -60", "-4 -61"] {
         let after = |text: &str| both(&["0 0 0.000001 0 0 0", &format!("{start} {text}")]);
-        assert_eq!(after("x 64 0 0"), (6, 2));
-        assert_eq!(after("T 64 0 0"), (9, 2));
-        assert_eq!(after("T 0 1 1 x"), (9, 2));
-        assert_eq!(after("T 0 0 1 x"), (5, 2));
-        assert_eq!(after("T 0 0 4 2 8 1 1 0"), (10, 2));
+        assert_eq!(after("^x 64 0 0"), (6, 2));
+        assert_eq!(after("T ^64 0 0"), (9, 2));
+        assert_eq!(after("T 0 ^1 1 x"), (9, 2));
+        assert_eq!(after("T 0 0 1 ^x"), (5, 2));
+        assert_eq!(after("T 0 0 ^4 2 8 1 1 0"), (10, 2));
         assert_eq!(after("T 0 0 3 2 8 1 1"), (11, 2));
         let full = "0 0 T 0 0 0\n".repeat(MAX_RECORDS);
         let last = |data: &str| number(trace(&[&format!("{full}{start} T 0 0 {data}")]), STRICT);
-        assert_eq!(last("4 2 8 1 1 0"), (10, 2_049));
+        assert_eq!(last("^4 2 8 1 1 0"), (10, 2_049));
         assert_eq!(last("3 2 8 1 1"), (12, 2_049));
     }
 }
@@ -93,16 +94,16 @@ fn each_new_event_is_listed_as_mark_entry_exit_and_user_data() {
     for event in NEW {
         for record_type in [-2, -3, -4, 0] {
             let start = format!("{record_type} {event}");
-            let expected = match start.as_str() {
-                "-3 -27" | "-4 -58" | "-4 -60" | "-4 -61" => (10, 1),
-                _ => (0, 0),
+            let (end, expected) = match start.as_str() {
+                "-3 -27" | "-4 -58" | "-4 -60" | "-4 -61" => ("^0", (10, 1)),
+                _ => ("0", (0, 0)),
             };
-            assert_eq!(both(&[&format!("{start} T 0 0 0")]), expected, "{start}");
-            assert_eq!(both(&[&format!("{start} T 64 0 0")]), (9, 1), "{start}");
-            assert_eq!(both(&[&format!("{start} T 0 1 0")]), (9, 1), "{start}");
+            assert_eq!(both(&[&format!("{start} T 0 0 {end}")]), expected, "{start}");
+            assert_eq!(both(&[&format!("{start} T ^64 0 0")]), (9, 1), "{start}");
+            assert_eq!(both(&[&format!("{start} T 0 ^1 0")]), (9, 1), "{start}");
         }
         let other_type = format!("-5 {event} 0.000000 99 9 0\n");
-        assert_eq!(number(&other_type, STRICT), (7, 1));
+        assert_eq!(number(format!("^{other_type}"), STRICT), (7, 1));
         assert_eq!(number(&other_type, LENIENT), (0, 0));
     }
 }
@@ -113,7 +114,8 @@ fn the_edges_of_refusal_8() {
         let of = |event: i64, end: &str| format!("{record_type} {event} T {end}");
         for event in [-22, -26, -32, -50, -53, -56, -62, -80] {
             for end in ["0 0 0", "0 0 3 2 8 1 1", "99 9 7", "0 0 0 junk"] {
-                assert_eq!(both(&[&of(event, end)]), (8, 1), "{record_type} {event} {end}");
+                let line = of(event, end).replacen(' ', " ^", 1);
+                assert_eq!(both(&[&line]), (8, 1), "{line}");
             }
         }
         for event in [-21, -27, -31, -51, -52, -57, -61] {
@@ -122,7 +124,7 @@ fn the_edges_of_refusal_8() {
         }
         for event in [-20, -81] {
             let line = trace(&[&of(event, "0 0 3 2 8 1 1")]);
-            assert_eq!(number(&line, STRICT), (7, 1), "{line}");
+            assert_eq!(number(line.replacen(' ', " ^", 1), STRICT), (7, 1), "{line}");
             assert_eq!(number(&line, LENIENT), (0, 0), "{line}");
         }
     }
@@ -139,10 +141,10 @@ fn a_record_that_is_neither_may_have_any_good_data() {
             assert_eq!(of(data), (0, 0), "{start} {data}");
         }
         assert_eq!(of(&format!("16 2{}", " -1".repeat(16))), (0, 0), "{start}");
-        for data in ["1", "1 2", "1 2 x", "1 3 7", "1 5 7", "0 2", "1 2 7 7", "1 2 -0"] {
+        for data in ["1^", "1 2^", "1 2 ^x", "1 ^3 7", "1 5 ^7", "0 ^2", "1 2 7 ^7", "1 2 ^-0"] {
             assert_eq!(of(data), (5, 1), "{start} {data}");
         }
-        assert_eq!(of(&format!("17 2{}", " -1".repeat(17))), (5, 1), "{start}");
+        assert_eq!(of(&format!("^17 2{}", " -1".repeat(17))), (5, 1), "{start}");
     }
 }
 

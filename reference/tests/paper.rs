@@ -2,7 +2,7 @@
 
 mod common;
 
-use common::{LENIENT, STRICT, TRACE_A, TRACE_B, first_lines, judged, number, written};
+use common::{LENIENT, STRICT, TRACE_A, TRACE_B, first_lines, judged, number, refused, written};
 use reference::generator::flat_table;
 use reference::report::report;
 use reference::{Answer, Asked, Inputs, LATENCIES, MAX_BYTES, MAX_LATENCY, MAX_RECORDS, judge};
@@ -71,7 +71,7 @@ fn p7_a_ring_without() {
 
 #[test]
 fn p8_p9_times_about_zero() {
-    assert_eq!(number("0 0 -0.000000 0 0 0\n", STRICT), (6, 1));
+    assert_eq!(number("0 0 ^-0.000000 0 0 0\n", STRICT), (6, 1));
     let (_, times) = judged("0 0 -0.000001 0 0 0\n", &flat_table(0), STRICT);
     assert_eq!(times, [-1]);
 }
@@ -83,12 +83,13 @@ fn p10_choice_3() {
 
 #[test]
 fn table_20() {
-    assert_eq!(number(TABLE_20, STRICT), (7, 25));
-    assert_eq!(number(TABLE_20, LENIENT), (13, 13));
+    assert_eq!(refused(TABLE_20, STRICT), (7, 25, 1));
+    assert_eq!(refused(TABLE_20, LENIENT), (13, 13, 0));
     let (answer, _) = judged(first_lines(TABLE_20, 12), &flat_table(0), STRICT);
     assert_eq!((answer.verdict, answer.listed), (3, 12));
-    let (refused, _) = judged(TABLE_20, &flat_table(0), STRICT);
-    assert_eq!(report(&refused), "refused 7 line 25\n");
+    let said = |asked| report(&judged(TABLE_20, &flat_table(0), asked).0);
+    assert_eq!(said(STRICT), "refused 7 line 25 column 1\n");
+    assert_eq!(said(LENIENT), "refused 13 line 13 column 0\n");
 }
 
 #[test]
@@ -116,8 +117,8 @@ fn sizes_of_a_trace() {
 #[test]
 fn processors() {
     assert_eq!(number("0 0 0.000000 63 0 0\n", STRICT), (0, 0));
-    assert_eq!(number("0 0 0.000000 64 0 0\n", STRICT), (9, 1));
-    assert_eq!(number("0 0 0.000000 0 1 0\n", STRICT), (9, 1));
+    assert_eq!(number("0 0 0.000000 ^64 0 0\n", STRICT), (9, 1));
+    assert_eq!(number("0 0 0.000000 0 ^1 0\n", STRICT), (9, 1));
 }
 
 #[test]
@@ -198,7 +199,9 @@ fn event_types() {
             _ if not_handled => (8, 8),
             _ => (7, 0),
         };
-        assert_eq!(number(&line, STRICT).0, strict, "{line}");
-        assert_eq!(number(&line, LENIENT).0, lenient, "{line}");
+        // The record type is listed: where one is refused, it is for its event.
+        let marked = |number| if number == 0 { line.clone() } else { line.replacen(' ', " ^", 1) };
+        assert_eq!(number(marked(strict), STRICT).0, strict, "{line}");
+        assert_eq!(number(marked(lenient), LENIENT).0, lenient, "{line}");
     }
 }

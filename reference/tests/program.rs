@@ -44,10 +44,10 @@ fn the_report_for_trace_a() {
 fn the_first_argument_is_compared_as_bytes() {
     let folder = folder("choice");
     for choice in ["0", "3", "01", "+1", "1 ", "", "11", "one"] {
-        assert_eq!(said(&folder, &[choice, "trace", "table"]), "refused 1 line 0\n");
+        assert_eq!(said(&folder, &[choice, "trace", "table"]), "refused 1 line 0 column 0\n");
     }
-    assert_eq!(said(&folder, &[]), "refused 1 line 0\n");
-    assert_eq!(said(&folder, &["3", "missing"]), "refused 1 line 0\n");
+    assert_eq!(said(&folder, &[]), "refused 1 line 0 column 0\n");
+    assert_eq!(said(&folder, &["3", "missing"]), "refused 1 line 0 column 0\n");
 }
 
 #[test]
@@ -66,8 +66,8 @@ fn files_that_cannot_be_read() {
     ] {
         assert_eq!(said(&folder, arguments), "cannot read\n");
     }
-    assert_eq!(said(&folder, &["1", "long", "short"]), "refused 2 line 0\n");
-    assert_eq!(said(&folder, &["1", "long", "table"]), "refused 4 line 0\n");
+    assert_eq!(said(&folder, &["1", "long", "short"]), "refused 2 line 0 column 0\n");
+    assert_eq!(said(&folder, &["1", "long", "table"]), "refused 4 line 0 column 0\n");
 }
 
 #[test]
@@ -76,8 +76,8 @@ fn tables() {
     fs::write(folder.join("longer"), [table(0), vec![0]].concat()).unwrap();
     fs::write(folder.join("high"), table(1_000_001)).unwrap();
     fs::write(folder.join("limit"), table(1_000_000)).unwrap();
-    assert_eq!(said(&folder, &["1", "trace", "longer"]), "refused 2 line 0\n");
-    assert_eq!(said(&folder, &["1", "trace", "high"]), "refused 3 line 0\n");
+    assert_eq!(said(&folder, &["1", "trace", "longer"]), "refused 2 line 0 column 0\n");
+    assert_eq!(said(&folder, &["1", "trace", "high"]), "refused 3 line 0 column 0\n");
     assert_eq!(said(&folder, &["1", "trace", "limit"]), REPORT_A);
 }
 
@@ -97,7 +97,7 @@ fn every_verdict_writes_the_file() {
 fn a_refusal_writes_no_file() {
     let folder = folder("unwritten");
     fs::write(folder.join("bad"), "x\n").unwrap();
-    assert_eq!(said(&folder, &["1", "bad", "table", "written"]), "refused 5 line 1\n");
+    assert_eq!(said(&folder, &["1", "bad", "table", "written"]), "refused 5 line 1 column 2\n");
     assert!(!folder.join("written").exists());
 }
 
@@ -110,5 +110,5 @@ fn room_for_65536_bytes() {
     trace.push(b'\n');
     fs::write(folder.join("trace"), trace).unwrap();
     assert!(said(&folder, &["2", "trace", "table"]).starts_with("verdict corrected\n"));
-    assert_eq!(said(&folder, &["2", "trace", "table", "written"]), "refused 16 line 0\n");
+    assert_eq!(said(&folder, &["2", "trace", "table", "written"]), "refused 16 line 0 column 0\n");
 }

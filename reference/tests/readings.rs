@@ -5,9 +5,9 @@ mod common;
 use common::{LENIENT, STRICT, TRACE_A, judged, number, written};
 use reference::generator::record::trace_of;
 use reference::generator::{flat_table, shape};
-use reference::{Asked, Inputs, MAX_BYTES, MAX_RECORDS, judge};
+use reference::{Answer, Asked, Inputs, MAX_BYTES, MAX_RECORDS, judge};
 
-/// One line's refusal under lenient reading, 0 if it is taken or passed over.
+/// One line's refusal under lenient reading, 0 if it is taken or passed over. A caret marks the column.
 #[track_caller]
 fn line(text: &str, expected: u64) {
     let line = if expected == 0 { 0 } else { 1 };
@@ -16,70 +16,70 @@ fn line(text: &str, expected: u64) {
 
 #[test]
 fn an_empty_field_is_a_field() {
-    line("-3 0  0 0 0", 6);
-    line("", 5);
-    line(" -3 0 0.000000 0 0 0", 5);
-    line("-3 0 0.000000 0 0 0 ", 5);
-    line("-3 0 0.000000 0 0  0", 5);
+    line("-3 0 ^ 0 0 0", 6);
+    line("^", 5);
+    line("^ -3 0 0.000000 0 0 0", 5);
+    line("-3 0 0.000000 0 0 0 ^", 5);
+    line("-3 0 0.000000 0 0 ^ 0", 5);
 }
 
 #[test]
 fn the_end_and_the_fields_come_first() {
-    line("-3 0 x 0 0", 5);
-    assert_eq!(number("-3 0 x 0 0 0", LENIENT), (5, 1));
-    assert_eq!(number("0 0 0.000000 0 0 0\n-5 0 0.000000 0 0 0", STRICT), (5, 2));
-    line("x 0 x 0 0 0", 5);
-    line("0 0 x x 0 0", 6);
+    line("-3 0 x 0 0^", 5);
+    assert_eq!(number("-3 0 x 0 0 0^", LENIENT), (5, 1));
+    assert_eq!(number("0 0 0.000000 0 0 0\n-5 0 0.000000 0 0 0^", STRICT), (5, 2));
+    line("^x 0 x 0 0 0", 5);
+    line("0 0 ^x x 0 0", 6);
 }
 
 #[test]
 fn what_follows_field_six_comes_after_the_processor() {
-    line("-3 0 0.000000 64 0 0 ", 9);
-    line("-3 0 0.000000 64 0 17 2", 9);
-    line("-3 0 0.000000 0 0 17 2", 5);
-    line("-3 0 0.000000 64 0 1000", 5);
+    line("-3 0 0.000000 ^64 0 0 ", 9);
+    line("-3 0 0.000000 ^64 0 17 2", 9);
+    line("-3 0 0.000000 0 0 ^17 2", 5);
+    line("-3 0 0.000000 64 0 ^1000", 5);
 }
 
 #[test]
 fn events_not_handled() {
-    line("-3 -62 0.000000 0 0 0 junk", 8);
-    line("-3 -62 0.000000 99 9 7", 8);
+    line("-3 ^-62 0.000000 0 0 0 junk", 8);
+    line("-3 ^-62 0.000000 99 9 7", 8);
     line("-5 -62 0.000000 0 0 0", 0);
-    assert_eq!(number("-5 -62 0.000000 0 0 0\n", STRICT), (7, 1));
-    assert_eq!(number("-3 -62 0.000000 0 0 0\n", STRICT), (8, 1));
+    assert_eq!(number("^-5 -62 0.000000 0 0 0\n", STRICT), (7, 1));
+    assert_eq!(number("-3 ^-62 0.000000 0 0 0\n", STRICT), (8, 1));
 }
 
 #[test]
 fn the_end_of_an_unlisted_line() {
-    line("-5 0 0.000000 0 0 1 ", 5);
-    line("-5 0 0.000000 0 0 1", 5);
-    line("-5 0 0.000000 0 0 0 ", 5);
-    line("-5 0 0.000000 0 0 0 x", 5);
-    line("-5 0 0.000000 0 0 1\r", 5);
+    line("-5 0 0.000000 0 0 1 ^", 5);
+    line("-5 0 0.000000 0 0 1^", 5);
+    line("-5 0 0.000000 0 0 0 ^", 5);
+    line("-5 0 0.000000 0 0 0 ^x", 5);
+    line("-5 0 0.000000 0 0 ^1\r", 5);
     for end in ["1  ", "1 x ", "1 a  b", "1 \r", "999 x"] {
         line(&format!("-5 0 0.000000 -9 77 {end}"), 0);
     }
-    assert_eq!(number("-5 0 0.000000 0 0 1 \n", STRICT), (5, 1));
+    assert_eq!(number("-5 0 0.000000 0 0 1 ^\n", STRICT), (5, 1));
     assert_eq!(number("0 0 1.000000 0 0 0\n-5 0 0.000000 0 0 0\n", LENIENT), (0, 0));
 }
 
 #[test]
 fn data_of_a_message() {
-    line("-3 -21 0.000000 0 0 3 2 8 x 1", 5);
-    line("-3 -21 0.000000 0 0 3 2 8 1", 5);
-    line("-3 -21 0.000000 0 0 3 3 8 1 1", 5);
-    line("-3 -21 0.000000 0 0 3 02 8 1 1", 5);
-    line("-3 -21 0.000000 0 0 17 2 8 1 1", 5);
-    line("-3 -21 0.000000 0 0 1 5 -0.000000", 5);
-    line("-3 -21 0.000000 0 0 0", 10);
-    line("-3 -21 0.000000 0 0 2 2 8 1", 10);
-    line("-3 -21 0.000000 0 0 4 2 8 1 1 1", 10);
-    line("-3 -21 0.000000 0 0 3 5 0.000008 0.000001 0.000001", 10);
-    line("-3 -21 0.000000 0 0 3 2 -1 1 1", 10);
-    line("-3 -21 0.000000 0 0 3 2 8 1 64", 10);
-    line("-3 -21 0.000000 0 0 3 2 8 1 -1", 10);
-    line("-4 -51 0.000000 0 0 0", 10);
-    line("-4 -52 0.000000 0 0 3 2 8 1 64", 10);
+    line("-3 -21 0.000000 0 0 3 2 8 ^x 1", 5);
+    line("-3 -21 0.000000 0 0 3 2 8 1^", 5);
+    line("-3 -21 0.000000 0 0 3 ^3 8 1 1", 5);
+    line("-3 -21 0.000000 0 0 3 ^02 8 1 1", 5);
+    line("-3 -21 0.000000 0 0 ^17 2 8 1 1", 5);
+    line("-3 -21 0.000000 0 0 1 5 ^-0.000000", 5);
+    line("-3 -21 0.000000 0 0 ^0", 10);
+    line("-3 -21 0.000000 0 0 ^2 2 8 1", 10);
+    line("-3 -21 0.000000 0 0 ^4 2 8 1 1 1", 10);
+    line("-3 -21 0.000000 0 0 3 ^5 0.000008 0.000001 0.000001", 10);
+    line("-3 -21 0.000000 0 0 3 2 ^-1 1 1", 10);
+    line("-3 -21 0.000000 0 0 3 2 8 1 ^64", 10);
+    line("-3 -21 0.000000 0 0 3 2 8 1 ^-1", 10);
+    line("-4 -51 0.000000 0 0 ^0", 10);
+    line("-4 -52 0.000000 0 0 3 2 8 1 ^64", 10);
     line("-3 -21 0.000000 0 0 3 2 0 -1 63", 0);
 }
 
@@ -93,7 +93,7 @@ fn records_of_message_events_that_are_none() {
 #[test]
 fn times_and_their_order() {
     line("0 0 -999999999.999999 0 0 0", 0);
-    line("0 0 1000000000.000000 0 0 0", 6);
+    line("0 0 ^1000000000.000000 0 0 0", 6);
     assert_eq!(number("0 0 0.000001 0 0 0\n0 0 0.000000 0 0 0\n", STRICT), (11, 2));
     assert_eq!(number("0 0 0.000001 0 0 0\n0 0 0.000001 0 0 0\n", STRICT), (0, 0));
     assert_eq!(number("0 0 0.000001 0 0 0\n0 0 0.000000 1 0 0\n", STRICT), (0, 0));
@@ -103,7 +103,7 @@ fn times_and_their_order() {
 #[test]
 fn numbers() {
     for bad in ["", "-", "-0", "00", "01", "+1", "1000000000", "-1000000000", "0000000001", "1.0", "1\r"] {
-        line(&format!("0 0 0.000000 0 0 1 2 {bad}"), 5);
+        line(&format!("0 0 0.000000 0 0 1 2 ^{bad}"), 5);
     }
     for good in ["0", "-1", "999999999", "-999999999"] {
         line(&format!("0 0 0.000000 0 0 1 2 {good}"), 0);
@@ -111,21 +111,21 @@ fn numbers() {
     for bad in
         ["-0.000000", "00.000000", "0.00000", "0.0000000", ".000000", "1", "1.", "-.000001", "1.00000x"]
     {
-        line(&format!("0 0 {bad} 0 0 0"), 6);
-        line(&format!("0 0 0.000000 0 0 1 5 {bad}"), 5);
+        line(&format!("0 0 ^{bad} 0 0 0"), 6);
+        line(&format!("0 0 0.000000 0 0 1 5 ^{bad}"), 5);
     }
 }
 
 #[test]
 fn counts() {
     line(&format!("0 0 0.000000 0 0 16 2{}", " 1".repeat(16)), 0);
-    line(&format!("0 0 0.000000 0 0 17 2{}", " 1".repeat(17)), 5);
+    line(&format!("0 0 0.000000 0 0 ^17 2{}", " 1".repeat(17)), 5);
     line("-5 0 0.000000 0 0 999 x", 0);
-    line("-5 0 0.000000 0 0 1000 x", 5);
-    line("-5 0 0.000000 0 0 -1", 5);
-    line("0 0 0.000000 0 0 0 2", 5);
-    line("0 0 0.000000 0 0 1", 5);
-    line("0 0 0.000000 0 0 1 2", 5);
+    line("-5 0 0.000000 0 0 ^1000 x", 5);
+    line("-5 0 0.000000 0 0 ^-1", 5);
+    line("0 0 0.000000 0 0 0 ^2", 5);
+    line("0 0 0.000000 0 0 1^", 5);
+    line("0 0 0.000000 0 0 1 2^", 5);
 }
 
 #[test]
@@ -134,10 +134,10 @@ fn the_line_of_record_2049() {
     let after = |text: &str| number(format!("{full}{text}\n"), LENIENT);
     assert_eq!(after("0 0 0.000001 0 0 0"), (12, 2_049));
     assert_eq!(after("0 0 0.000000 0 0 0"), (11, 2_049));
-    assert_eq!(after("-3 -21 0.000001 0 0 0"), (10, 2_049));
-    assert_eq!(after("0 0 0.000001 0 0 1"), (5, 2_049));
-    assert_eq!(after("0 0 0.000001 64 0 0"), (9, 2_049));
-    assert_eq!(after("0 -62 0.000001 0 0 0"), (8, 2_049));
+    assert_eq!(after("-3 -21 0.000001 0 0 ^0"), (10, 2_049));
+    assert_eq!(after("0 0 0.000001 0 0 1^"), (5, 2_049));
+    assert_eq!(after("0 0 0.000001 ^64 0 0"), (9, 2_049));
+    assert_eq!(after("0 ^-62 0.000001 0 0 0"), (8, 2_049));
     assert_eq!(after("-5 0 0.000000 0 0 0"), (0, 0));
 }
 
@@ -169,7 +169,7 @@ fn lines_of_13_and_14() {
     let send = "-3 -21 0.000000 0 0 3 2 7 1 1\n";
     assert_eq!(number([passed, receive].concat(), LENIENT), (13, 2));
     assert_eq!(number([passed, receive, send].concat(), LENIENT), (14, 2));
-    assert_eq!(number([receive, "x\n"].concat(), LENIENT), (5, 2));
+    assert_eq!(number([receive, "x^\n"].concat(), LENIENT), (5, 2));
 }
 
 #[test]
@@ -236,6 +236,6 @@ fn the_order_of_1_to_4() {
 #[test]
 fn refusals_touch_nothing() {
     let (answer, times) = judged(TRACE_A.replace("-4 -51", "-4 -50"), &flat_table(5), STRICT);
-    assert_eq!((answer.number, answer.line, answer.listed), (8, 5, 0));
+    assert_eq!(answer, Answer { number: 8, line: 5, column: 4, ..Answer::default() });
     assert!(times.is_empty());
 }

@@ -5,6 +5,7 @@ use reference::form::{time, whole};
 use reference::generator::Case;
 use reference::generator::stroke::{KIND, LONGEST_START};
 use reference::line::{self, Line};
+use reference::refusal::Fault;
 use reference::trial::Call;
 use reference::{Choice, judge};
 use std::cmp::Ordering;
@@ -89,7 +90,7 @@ fn strokes(lines: &[u8], places: impl Iterator<Item = usize>) -> Vec<Stroke> {
 
 /// Whether lines have a good form, whatever they mean.
 fn are_good(lines: &[u8]) -> bool {
-    let good = |line| !matches!(line::read(line, Choice::Lenient), Err(5 | 6));
+    let good = |line| !matches!(line::read(line, Choice::Lenient), Err(Fault { number: 5 | 6, .. }));
     lines.strip_suffix(b"\n").is_some_and(|lines| lines.split(|&byte| byte == b'\n').all(good))
 }
 

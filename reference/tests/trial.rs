@@ -1,11 +1,16 @@
 //! The comparison itself tried: judges that are wrong in one way each must all be found out.
 
+mod common;
+
+use common::{found_among, found_in};
 use reference::generator::{Case, flat_table};
 use reference::line::Role;
 use reference::refusal::{LEVELS, LONG_RECEIVE, NO_TIMES, RECORDS, UNMATCHED};
-use reference::trial::{Call, Tally, difference, events_of_messages};
-use reference::{Answer, Asked, Choice, Inputs, MAX_RECORDS, PROCESSORS, clock, judge, message, trace};
-use std::collections::{BTreeSet, HashMap, VecDeque};
+use reference::trial::{Call, Tally, events_of_messages};
+use reference::{
+    Answer, Asked, Choice, Inputs, MAX_RECORDS, PROCESSORS, clock, deciding, judge, message, trace,
+};
+use std::collections::{BTreeMap, BTreeSet, HashMap, VecDeque};
 
 const CASES: u64 = 2_000;
 /// For what is wrong in few cases.
@@ -25,19 +30,6 @@ fn found_with_levels(wrong: impl Fn(Inputs) -> Answer) -> bool {
 /// by what it makes of them, and not by writing them.
 fn found_unwritten(wrong: impl Fn(Inputs) -> Answer) -> bool {
     found_among((0..MORE_CASES).map(|seed| Case { wanted: false, ..Case::from_seed(seed) }), wrong)
-}
-
-fn found_in(cases: u64, wrong: impl Fn(Inputs) -> Answer) -> bool {
-    found_among((0..cases).map(Case::from_seed), wrong)
-}
-
-fn found_among(mut cases: impl Iterator<Item = Case>, wrong: impl Fn(Inputs) -> Answer) -> bool {
-    let (mut ours, mut theirs) = (Call::default(), Call::default());
-    cases.any(|case| {
-        let expected = ours.run(&case, judge);
-        let given = theirs.run(&case, &wrong);
-        difference((&expected, &ours), (&given, &theirs)).is_some()
-    })
 }
 
 /// The same of a judge that spoils what the right one leaves behind.
@@ -589,10 +581,22 @@ fn too_few_good_or_nearly_good_traces_are_told() {
     let often = Tally { numbers: [500; 18], verdicts: [500; 4], levels_met: 500, ..Tally::default() };
     let enough =
         Tally { nonblocking: 500, short_receives: 500, quick: 20_000, one_byte_off: 20_000, ..often };
+    let columns: BTreeMap<String, u64> = deciding::all().into_iter().map(|meant| (meant, 50)).collect();
+    let enough = Tally { columns, ..enough };
     assert_eq!(enough.too_seldom(), [""; 0]);
     assert_eq!(
-        Tally { quick: 19_999, one_byte_off: 0, ..enough }.too_seldom(),
+        Tally { quick: 19_999, one_byte_off: 0, ..enough.clone() }.too_seldom(),
         ["quick came up 19999 times, 20000 are asked", "one byte off came up 0 times, 20000 are asked"]
+    );
+    let mut without = enough;
+    without.columns.remove("5 datum 12");
+    without.columns.insert("10 length".to_string(), 49);
+    assert_eq!(
+        without.too_seldom(),
+        [
+            "column of 5 datum 12 came up 0 times, 50 are asked",
+            "column of 10 length came up 49 times, 50 are asked"
+        ]
     );
 }
 
@@ -632,6 +636,9 @@ fn the_generator_reaches_everything() {
     }
     assert!(tally.numbers.iter().all(|&times| times > 0), "{tally}");
     assert!(tally.verdicts.iter().all(|&times| times > 0), "{tally}");
+    // Each column means one of what is counted.
+    let known: u64 = deciding::all().iter().filter_map(|meant| tally.columns.get(meant)).sum();
+    assert_eq!(known, tally.numbers[5..=10].iter().sum());
 }
 
 /// Every event of a send meets every event of a receive in some trace that is accepted.

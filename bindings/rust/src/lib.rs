@@ -171,7 +171,8 @@ pub struct Accepted {
 ///
 /// # Errors
 ///
-/// The trace, or the whole call, is refused for one of the reasons that [`Refusal`] has.
+/// The trace, or the whole call, is refused for one of the reasons that [`Refusal`] has. [`Refused`] says at
+/// which line and column.
 pub fn judge(
     trace: &[u8],
     latencies: &[u32],
@@ -182,7 +183,7 @@ pub fn judge(
     let wanted = room.is_some();
     let answer = raw::LINKED.judge(trace, latencies, asked.into(), times, wanted, room.unwrap_or_default());
     if answer.number != 0 {
-        return Err(Refused::numbered(answer.number, answer.line));
+        return Err(Refused::of(answer));
     }
     Ok(Accepted {
         verdict: match answer.verdict {

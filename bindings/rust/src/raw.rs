@@ -20,7 +20,7 @@ pub struct Asked {
     pub trace: i64,
 }
 
-/// `struct cantuvesh_answer`: a refusal has its number and line, and 0 in all the rest.
+/// `struct cantuvesh_answer`: a refusal has its number, line and column, and 0 in all the rest.
 #[repr(C)]
 #[derive(Clone, Copy, Debug, PartialEq, Eq)]
 pub struct Answer {
@@ -28,6 +28,8 @@ pub struct Answer {
     pub number: u64,
     /// The refused line, counted from 1; 0 where no line is meant.
     pub line: u64,
+    /// The column of the field that decides a refusal from 5 to 10, counted from 1 in bytes; 0 for all else.
+    pub column: u64,
     /// 1 consistent, 2 corrected, 3 nothing to judge.
     pub verdict: u64,
     /// Listed records: so many of the lent times are written.
@@ -83,7 +85,7 @@ impl Library {
         Library(unsafe { mem::transmute::<unsafe extern "C" fn(), Judge>(function) })
     }
 
-    /// Judges one trace, and gives the nine numbers as they are. `include/cantuvesh.h` says what every
+    /// Judges one trace, and gives the ten numbers as they are. `include/cantuvesh.h` says what every
     /// argument means.
     pub fn judge(
         self,

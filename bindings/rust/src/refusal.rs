@@ -1,5 +1,6 @@
 //! Why a trace, or a whole call, is refused.
 
+use crate::raw;
 use std::error::Error;
 use std::fmt;
 use std::num::NonZero;
@@ -67,19 +68,34 @@ impl fmt::Display for Refusal {
 }
 
 /// The answer on a trace, or a whole call, that is refused.
+///
+/// ```
+/// use cantuvesh::{Asked, Choice, Latencies, Levels, TIMES, judge};
+///
+/// let trace = b"-3 7 0.000000 0 0 0\n-4 7 0.000001 0 0 3 2 8 one 1\n";
+/// let asked = Asked { choice: Choice::Strict, levels: Levels::Off };
+/// let refused = judge(trace, &Latencies::everywhere(0), asked, &mut [0; TIMES], None).unwrap_err();
+/// let (line, column) = (refused.line.unwrap().get(), refused.column.unwrap().get());
+/// assert_eq!((refused.refusal.number(), line, column), (5, 2, 25));
+/// assert!(refused.to_string().starts_with("refused 5 line 2 column 25: the form of the line"));
+/// ```
 #[derive(Clone, Copy, Debug, PartialEq, Eq, Hash)]
 pub struct Refused {
     /// The reason.
     pub refusal: Refusal,
     /// The line that it means, counted from 1; none where the whole call is meant.
     pub line: Option<NonZero<u64>>,
+    /// Where the field that decides begins in the line, counted from 1 in bytes; one past the line's last
+    /// byte where a field or the LF is missing. The refusals 5 to 10 have it, and no others.
+    pub column: Option<NonZero<u64>>,
 }
 
 impl Refused {
-    pub(crate) fn numbered(number: u64, line: u64) -> Refused {
+    pub(crate) fn of(answer: raw::Answer) -> Refused {
+        let raw::Answer { number, line, column, .. } = answer;
         let refusal = Refusal::numbered(number);
         let refusal = refusal.unwrap_or_else(|| panic!("the library gave refusal {number}, which is none"));
-        Refused { refusal, line: NonZero::new(line) }
+        Refused { refusal, line: NonZero::new(line), column: NonZero::new(column) }
     }
 }
 
@@ -88,6 +104,9 @@ impl fmt::Display for Refused {
         write!(out, "refused {}", self.refusal.number())?;
         if let Some(line) = self.line {
             write!(out, " line {line}")?;
+        }
+        if let Some(column) = self.column {
+            write!(out, " column {column}")?;
         }
         write!(out, ": {}", self.refusal)
     }

@@ -104,46 +104,72 @@ fn a_receive_may_take_fewer_bytes_than_were_sent() {
 #[test]
 fn lenient_passes_over_what_strict_refuses() {
     let trace = b"-5 0 0.000000 0 0 0\n";
-    assert_eq!(refused(trace), (Unlisted, 1));
+    assert_eq!(refused(trace), (Unlisted, 1, 1));
     assert_eq!(judged(trace, &Latencies::everywhere(0), LENIENT, None).0.unwrap().passed, 1);
 }
 
-fn reason(answer: Result<Accepted, Refused>) -> (Refusal, u64) {
-    let Refused { refusal, line } = answer.unwrap_err();
-    (refusal, line.map_or(0, NonZero::get))
+/// Reason, line and column, 0 where there is none.
+fn reason(answer: Result<Accepted, Refused>) -> (Refusal, u64, u64) {
+    let Refused { refusal, line, column } = answer.unwrap_err();
+    (refusal, line.map_or(0, NonZero::get), column.map_or(0, NonZero::get))
 }
 
-/// Reason and line, under strict and without latencies.
-fn refused(trace: &[u8]) -> (Refusal, u64) {
+/// The same under strict and without latencies.
+fn refused(trace: &[u8]) -> (Refusal, u64, u64) {
     reason(judged(trace, &Latencies::everywhere(0), STRICT, None).0)
 }
 
 #[test]
 fn refusals_of_the_whole_call() {
     let none = Latencies::everywhere(0);
-    assert_eq!(reason(judged(b"", &[0; LATENCIES - 1], STRICT, None).0), (Lengths, 0));
-    assert_eq!(reason(judge(b"", &none, STRICT, &mut [], None)), (Lengths, 0));
-    assert_eq!(reason(judged(b"", &Latencies::everywhere(LATENCY_LIMIT + 1), STRICT, None).0), (Latency, 0));
-    assert_eq!(refused(&[b'\n'; TRACE_LIMIT + 1]), (TraceTooLong, 0));
+    assert_eq!(reason(judged(b"", &[0; LATENCIES - 1], STRICT, None).0), (Lengths, 0, 0));
+    assert_eq!(reason(judge(b"", &none, STRICT, &mut [], None)), (Lengths, 0, 0));
+    assert_eq!(
+        reason(judged(b"", &Latencies::everywhere(LATENCY_LIMIT + 1), STRICT, None).0),
+        (Latency, 0, 0)
+    );
+    assert_eq!(refused(&[b'\n'; TRACE_LIMIT + 1]), (TraceTooLong, 0, 0));
     let mut latencies = none.clone();
     latencies[(0, 1)] = 1;
-    assert_eq!(reason(judged(TRACE_B, &latencies, STRICT, None).0), (NoTimes, 0));
+    assert_eq!(reason(judged(TRACE_B, &latencies, STRICT, None).0), (NoTimes, 0, 0));
     let mut room = [b'?'; 3];
-    assert_eq!(reason(judged(TRACE_A, &none, STRICT, Some(&mut room)).0), (RoomTooShort, 0));
+    assert_eq!(reason(judged(TRACE_A, &none, STRICT, Some(&mut room)).0), (RoomTooShort, 0, 0));
     assert_eq!(room, [b'?'; 3]);
 }
 
 #[test]
 fn refusals_of_a_line() {
-    assert_eq!(refused(b"0 0 0.000000 0 0 0\nx\n"), (Form, 2));
-    assert_eq!(refused(b"0 0 -0.000000 0 0 0\n"), (Timestamp, 1));
-    assert_eq!(refused(b"0 -56 0.000000 0 0 0\n"), (NotHandled, 1));
-    assert_eq!(refused(b"0 0 0.000000 64 0 0\n"), (Place, 1));
-    assert_eq!(refused(b"-3 -21 0.000000 0 0 0\n"), (MessageData, 1));
-    assert_eq!(refused(b"0 0 0.000001 0 0 0\n0 0 0.000000 0 0 0\n"), (Order, 2));
-    assert_eq!(refused(&b"0 0 0.000000 0 0 0\n".repeat(TIMES + 1)), (TooManyRecords, 2_049));
-    assert_eq!(refused(b"-4 -52 0.000000 1 0 3 2 8 1 0\n"), (NoSend, 1));
-    assert_eq!(refused(b"-4 -52 0.000000 1 0 3 2 8 1 0\n-3 -21 0.000000 0 0 3 2 7 1 1\n"), (LongReceive, 1));
+    assert_eq!(refused(b"0 0 0.000000 0 0 0\nx\n"), (Form, 2, 2));
+    assert_eq!(refused(b"0 0 -0.000000 0 0 0\n"), (Timestamp, 1, 5));
+    assert_eq!(refused(b"0 -56 0.000000 0 0 0\n"), (NotHandled, 1, 3));
+    assert_eq!(refused(b"0 0 0.000000 64 0 0\n"), (Place, 1, 14));
+    assert_eq!(refused(b"-3 -21 0.000000 0 0 0\n"), (MessageData, 1, 21));
+    assert_eq!(refused(b"0 0 0.000001 0 0 0\n0 0 0.000000 0 0 0\n"), (Order, 2, 0));
+    assert_eq!(refused(&b"0 0 0.000000 0 0 0\n".repeat(TIMES + 1)), (TooManyRecords, 2_049, 0));
+    assert_eq!(refused(b"-4 -52 0.000000 1 0 3 2 8 1 0\n"), (NoSend, 1, 0));
+    assert_eq!(
+        refused(b"-4 -52 0.000000 1 0 3 2 8 1 0\n-3 -21 0.000000 0 0 3 2 7 1 1\n"),
+        (LongReceive, 1, 0)
+    );
+}
+
+#[test]
+fn columns() {
+    // The first field, one in the middle, and the last.
+    assert_eq!(refused(b"x 0 0.000000 0 0 2 2 1 1\n"), (Form, 1, 1));
+    assert_eq!(refused(b"0 0 0.000000 0 x 2 2 1 1\n"), (Form, 1, 16));
+    assert_eq!(refused(b"0 0 0.000000 0 0 2 2 1 x\n"), (Form, 1, 24));
+    // A datum that is missing, one too many, fewer than six fields, and no LF.
+    assert_eq!(refused(b"0 0 0.000000 0 0 2 2 1\n"), (Form, 1, 23));
+    assert_eq!(refused(b"0 0 0.000000 0 0 2 2 1 1 1\n"), (Form, 1, 26));
+    assert_eq!(refused(b"0 0 x\n"), (Form, 1, 6));
+    assert_eq!(refused(b"0 0 0.000000 0 0 0\n0 0 x 0 0 0"), (Form, 2, 12));
+    // 7, 9 and 10 at another of their fields.
+    assert_eq!(refused(b"0 -1 0.000000 0 0 0\n"), (Unlisted, 1, 3));
+    assert_eq!(refused(b"0 0 0.000000 0 1 0\n"), (Place, 1, 16));
+    assert_eq!(refused(b"-3 -21 0.000000 0 0 3 5 0.000000 0.000000 0.000000\n"), (MessageData, 1, 23));
+    assert_eq!(refused(b"-3 -21 0.000000 0 0 3 2 -8 1 64\n"), (MessageData, 1, 25));
+    assert_eq!(refused(b"-3 -21 0.000000 0 0 3 2 8 1 64\n"), (MessageData, 1, 29));
 }
 
 #[test]
@@ -162,25 +188,27 @@ fn levels_that_are_expected() {
         assert_eq!(judged(lines, expected), judged(lines, Levels::Off));
         assert_eq!(judged(lines, expected).unwrap().listed, lines.len());
     }
-    assert_eq!(reason(judged(&[good, other, event, elsewhere], expected)), (Refusal::Levels, 3));
-    assert_eq!(reason(judged(&[good, event, elsewhere], expected)), (Refusal::Levels, 3));
-    assert_eq!(reason(judged(&[short, event], expected)), (Refusal::Levels, 2));
+    assert_eq!(reason(judged(&[good, other, event, elsewhere], expected)), (Refusal::Levels, 3, 0));
+    assert_eq!(reason(judged(&[good, event, elsewhere], expected)), (Refusal::Levels, 3, 0));
+    assert_eq!(reason(judged(&[short, event], expected)), (Refusal::Levels, 2, 0));
     // A number that no field can hold, and each of the three in its own place.
     for (picl, user, trace) in
         [(4, -1, i64::MAX), (-1, 4, 999_999_999), (4, 999_999_999, -1), (i64::MIN, -1, 0)]
     {
         let levels = Levels::Expected { picl, user, trace };
-        assert_eq!(reason(judged(&[good, event], levels)), (Refusal::Levels, 2));
+        assert_eq!(reason(judged(&[good, event], levels)), (Refusal::Levels, 2, 0));
     }
     assert_eq!(judged(&[good, other, event, elsewhere], Levels::Off).unwrap().listed, 4);
 }
 
 #[test]
-fn a_refusal_says_its_number_its_line_and_its_sentence() {
+fn a_refusal_says_its_number_its_place_and_its_sentence() {
     let of_a_line = judged(b"-5 0 0.000000 0 0 0\n", &Latencies::everywhere(0), STRICT, None).0.unwrap_err();
     let sentence = "the record type or the event type is not listed, and the choice is strict";
-    assert_eq!(of_a_line.to_string(), format!("refused 7 line 1: {sentence}"));
+    assert_eq!(of_a_line.to_string(), format!("refused 7 line 1 column 1: {sentence}"));
     assert_eq!(of_a_line.refusal.to_string(), sentence);
+    let of_no_field = judged(b"-4 -52 0.000000 1 0 3 2 8 1 0\n", &Latencies::everywhere(0), STRICT, None).0;
+    assert_eq!(of_no_field.unwrap_err().to_string(), "refused 13 line 1: the receive has no matching send");
     let of_all: Box<dyn std::error::Error> = judged(b"", &[], STRICT, None).0.unwrap_err().into();
     assert_eq!(of_all.to_string(), "refused 2: the table or the lent times have the wrong length");
 }
@@ -190,6 +218,7 @@ fn raw_gives_the_numbers_as_they_are() {
     let none = raw::Answer {
         number: 0,
         line: 0,
+        column: 0,
         verdict: 0,
         listed: 0,
         passed: 0,
@@ -210,7 +239,8 @@ fn raw_gives_the_numbers_as_they_are() {
         assert_eq!(call(raw::Asked { levels, ..off(1) }, b"", &[], 0), raw::Answer { number: 1, ..none });
     }
     assert_eq!(call(off(1), b"", &[], 0), raw::Answer { number: 2, ..none });
-    assert_eq!(call(off(1), b"x\n", &[0; LATENCIES], TIMES), raw::Answer { number: 5, line: 1, ..none });
+    let of_a_field = raw::Answer { number: 5, line: 1, column: 2, ..none };
+    assert_eq!(call(off(1), b"x\n", &[0; LATENCIES], TIMES), of_a_field);
     let on = raw::Asked { levels: 1, ..off(1) };
     assert_eq!(call(on, TRACE_A, &[5; LATENCIES], TIMES), raw::Answer { number: 17, line: 5, ..none });
     let accepted = raw::Answer { verdict: 2, listed: 5, matched: 2, rounds: 3, written: 142, ..none };
@@ -229,6 +259,25 @@ fn what_is_asked_has_the_places_of_c() {
         offset_of!(Asked, trace),
     ];
     assert_eq!((places, size_of::<Asked>()), ([0, 4, 8, 16, 24], 32));
+}
+
+/// As a C compiler lays out `struct cantuvesh_answer`.
+#[test]
+fn an_answer_has_the_places_of_c() {
+    use raw::Answer;
+    let places = [
+        offset_of!(Answer, number),
+        offset_of!(Answer, line),
+        offset_of!(Answer, column),
+        offset_of!(Answer, verdict),
+        offset_of!(Answer, listed),
+        offset_of!(Answer, passed),
+        offset_of!(Answer, matched),
+        offset_of!(Answer, unreceived),
+        offset_of!(Answer, rounds),
+        offset_of!(Answer, written),
+    ];
+    assert_eq!((places, size_of::<Answer>()), ([0, 8, 16, 24, 32, 40, 48, 56, 64, 72], 80));
 }
 
 #[test]

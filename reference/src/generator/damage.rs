@@ -24,8 +24,7 @@ pub fn in_messages(random: &mut Random) -> Draft {
 }
 
 fn spoil_record(random: &mut Random, records: &mut Vec<Record>) {
-    let messages: Vec<usize> =
-        (0..records.len()).filter(|&place| records[place].is_send() || records[place].is_receive()).collect();
+    let messages: Vec<usize> = (0..records.len()).filter(|&place| records[place].is_message()).collect();
     if messages.is_empty() {
         let stray = Record::receive(random.pick(&RECEIVES), MAX_TIME, 0, 8, 1, random.between(0, 2));
         records.push(stray);

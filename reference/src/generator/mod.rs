@@ -2,13 +2,14 @@
 //!
 //! [`run`] makes sound runs and looks at them through wrong clocks, [`shape`] makes chains, rings
 //! and what else has a known shape, [`nonblocking`] gives messages of both to calls that do not wait,
-//! [`damage`] spoils them, [`stroke`] by one byte alone, [`near`] and [`soup`] put lines together from good
-//! and bad parts, [`limit`] goes to the ends of every size and number, [`level`] expects tracing levels and
-//! marks them, and [`call`] is the rest of a call. The benchmark's traces are in [`workload`], and stay as
-//! they are.
+//! [`damage`] spoils them, [`stroke`] by one byte alone, [`fault`] spoils chosen fields of one line, [`near`]
+//! and [`soup`] put lines together from good and bad parts, [`limit`] goes to the ends of every size and
+//! number, [`level`] expects tracing levels and marks them, and [`call`] is the rest of a call. The
+//! benchmark's traces are in [`workload`], and stay as they are.
 
 mod call;
 mod damage;
+mod fault;
 mod level;
 mod limit;
 mod near;
@@ -86,7 +87,7 @@ impl Case {
 
 fn draft(random: &mut Random) -> Draft {
     match random.below(1000) {
-        0..210 => run::skewed(random),
+        0..170 => run::skewed(random),
         210..235 => run::at_the_end_of_time(random),
         235..255 => limit::times(random),
         255..280 => shape::any_chain(random),
@@ -95,7 +96,8 @@ fn draft(random: &mut Random) -> Draft {
         420..475 => damage::in_text(random),
         475..775 => stroke::trace(random),
         775..840 => near::lines(random),
-        840..980 => soup::lines(random),
+        840..920 => soup::lines(random),
+        170..210 | 920..980 => fault::lines(random),
         980..988 => limit::records(random),
         988..996 => limit::bytes(random),
         _ => soup::noise(random),

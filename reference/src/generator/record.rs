@@ -53,9 +53,13 @@ impl Record {
         self.record_type == -4 && RECEIVES.contains(&self.event)
     }
 
+    pub fn is_message(&self) -> bool {
+        self.is_send() || self.is_receive()
+    }
+
     /// A message that is begun, or that finishes later.
     pub fn is_nonblocking(&self) -> bool {
-        (self.is_send() || self.is_receive()) && !matches!(self.event, -21 | -51 | -52)
+        self.is_message() && !matches!(self.event, -21 | -51 | -52)
     }
 
     /// The record's line without its LF.
@@ -153,7 +157,7 @@ pub fn any_data(random: &mut Random) -> Data {
     }
 }
 
-fn any_whole(random: &mut Random) -> i64 {
+pub fn any_whole(random: &mut Random) -> i64 {
     match random.below(4) {
         0 => random.between(-3, 3),
         1 => random.pick(&[999_999_999, -999_999_999, 0, -1, 10, 100]),

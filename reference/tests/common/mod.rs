@@ -1,8 +1,11 @@
-//! What the tests share: a judge with everything lent as it should be, and the sample traces.
+//! What the tests share: a judge with everything lent as it should be, the sample traces, and how judges that
+//! are wrong are found out.
 
-use reference::generator::flat_table;
+use reference::generator::{Case, flat_table};
+use reference::trial::{Call, difference};
 use reference::{Answer, Asked, Inputs, MAX_BYTES, MAX_RECORDS, judge};
 
+#[allow(dead_code)]
 pub const TRACE_A: &str = "\
 -3 -21 0.000010 0 0 3 2 8 1 1
 -4 -21 0.000012 0 0 0
@@ -45,13 +48,37 @@ pub fn judged(trace: impl AsRef<[u8]>, latencies: &[u32], asked: Asked) -> (Answ
     (answer, times)
 }
 
-/// Number and line under latencies 0.
+/// Number, line and column under latencies 0.
 #[allow(dead_code)]
-pub fn number(trace: impl AsRef<[u8]>, asked: Asked) -> (u64, u64) {
+pub fn refused(trace: impl AsRef<[u8]>, asked: Asked) -> (u64, u64, u64) {
     let (answer, times) = judged(trace, &flat_table(0), asked);
     assert_eq!(answer.number == 0, answer.verdict != 0);
     assert_eq!(times.len() as u64, answer.listed);
-    (answer.number, answer.line)
+    (answer.number, answer.line, answer.column)
+}
+
+/// Number and line under latencies 0. The column has to be that of a caret, which is no part of the trace: it
+/// stands before the field that decides, or at the end of a line where something is missing. Without one the
+/// column has to be 0.
+#[allow(dead_code)]
+#[track_caller]
+pub fn number(marked: impl AsRef<[u8]>, asked: Asked) -> (u64, u64) {
+    let (trace, column) = unmarked(marked.as_ref());
+    let (number, line, given) = refused(&trace, asked);
+    assert_eq!(given, column, "the column of {number} line {line} in {}", String::from_utf8_lossy(&trace));
+    (number, line)
+}
+
+/// A trace without its caret, and the column before which that stood, if there is one.
+fn unmarked(marked: &[u8]) -> (Vec<u8>, u64) {
+    match marked.split(|&byte| byte == b'^').collect::<Vec<_>>()[..] {
+        [trace] => (trace.to_vec(), 0),
+        [before, behind] => {
+            let start = before.iter().rposition(|&byte| byte == b'\n').map_or(0, |end| end + 1);
+            ([before, behind].concat(), (before.len() - start) as u64 + 1)
+        }
+        _ => panic!("two carets"),
+    }
 }
 
 /// The written trace under one latency everywhere.
@@ -76,4 +103,20 @@ pub fn written(trace: impl AsRef<[u8]>, latency: u32) -> Vec<u8> {
 #[allow(dead_code)]
 pub fn first_lines(trace: &str, count: usize) -> String {
     trace.split_inclusive('\n').take(count).collect()
+}
+
+/// Whether one of the first so many cases finds a judge out.
+#[allow(dead_code)]
+pub fn found_in(cases: u64, wrong: impl Fn(Inputs) -> Answer) -> bool {
+    found_among((0..cases).map(Case::from_seed), wrong)
+}
+
+#[allow(dead_code)]
+pub fn found_among(mut cases: impl Iterator<Item = Case>, wrong: impl Fn(Inputs) -> Answer) -> bool {
+    let (mut ours, mut theirs) = (Call::default(), Call::default());
+    cases.any(|case| {
+        let expected = ours.run(&case, judge);
+        let given = theirs.run(&case, &wrong);
+        difference((&expected, &ours), (&given, &theirs)).is_some()
+    })
 }
