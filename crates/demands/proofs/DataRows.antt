@@ -2,24 +2,23 @@
 use Prim.Native.Nat.{ℕ, zero, suc, _+_, _≤_, _<_}
 use native.Mathlib.Omega.{arith}
 use mathlib.Core.Path.{_≡_, refl, sym, ap, _∙_}
-use mathlib.Core.Logic.{_⊎_, inl, inr}
+use mathlib.Core.Logic.{inl, inr}
 use mathlib.Core.Bool.{Bool, true, false, cond}
 use mathlib.Core.Option.{Option, none, some}
-use mathlib.Core.List.{List, [], _∷_}
-use lib.ListN.{length}
+use mathlib.Core.List.{List}
 use lib.IntN.{ℤ, pos}
 use lib.Dec.{leb}
-use borrow.Author.Tests.{leb-true, leb-false, le-leb, lt-leb}
+use borrow.Author.Tests.{leb-true, leb-false}
 use Rattle.paper.specs.Tests.{eqZ}
 use Rattle.paper.specs.Forms.{wholeOf, timeOf}
-use Rattle.paper.specs.Line.{field, rest, onField, onFirst, firstOf, Numbers, wrong, numbers, pushed, valuesOf, asWholes, asOthers, described, dataOf}
-use Rattle.paper.specs.declared.Data.the-variants.{Three, Others}
+use Rattle.paper.specs.Line.{field, rest, onField, firstOf, Numbers, wrong, numbers, pushed, valuesOf, asWholes, asOthers, described, dataOf}
 use Rattle.paper.specs.declared.Field.{Field}
 use Rattle.paper.specs.declared.Field.the-variants.{Good, Bad}
 use Rattle.paper.specs.declared.Values.{Values}
 use Rattle.paper.specs.declared.Values.the-variants as Values
 use Rattle.forms.proofs.Tests.{never}
 use Rattle.reading.proofs.Stamp.{took}
+use Rattle.reading.proofs.Data.{WholesTold, wholes-told, data-few, data-many}
 use Rattle.demands.specs.Rows.{FirstWrong, too-many, missing, bad-datum, good-datum, BadData, above-limit, not-stated, no-descriptor, bad-descriptor, bad-wholes, bad-times}
 use Rattle.demands.proofs.Tests.{Tells, not-told, untold, same-tells}
 
@@ -59,20 +58,6 @@ module _ (form : List ℕ → Field) where
   wrong-values j (good-datum v p f) = rw (p, wrong-values (suc j) f) (ap wrong (omega arith))
 
 -- ---- what the numbers come to
-
--- three whole numbers are told from others
-abbrev pub WholesTold : List ℤ → Type 0
-WholesTold vs =
-    ((length vs ≡ 3) × (a : ℤ) × (b : ℤ) × (c : ℤ) × (asWholes (numbers vs) ≡ Values.Good (Three a b c)))
-    ⊎ ((¬ (length vs ≡ 3)) × (asWholes (numbers vs) ≡ Values.Good Others))
-
-pub wholes-told : (vs : List ℤ) → WholesTold vs
-unfolding asWholes
-wholes-told [] = inr (λ e. omega arith, refl)
-wholes-told (a ∷ []) = inr (λ e. omega arith, refl)
-wholes-told (a ∷ b ∷ []) = inr (λ e. omega arith, refl)
-wholes-told (a ∷ b ∷ c ∷ []) = inl (refl, a, b, c, refl)
-wholes-told (a ∷ b ∷ c ∷ d ∷ vs) = inr (λ e. omega arith, refl)
 
 wholes-bad : (x : Numbers) (k : ℕ) → asWholes x ≡ Values.Bad k → x ≡ wrong k
 unfolding asWholes
@@ -122,28 +107,17 @@ module _ (n : ℕ) (some-data : 0 < n) (few : n ≤ 16) (l : List ℕ) (k : ℕ)
 
 -- ---- the data
 
--- where there are some
-some-data-of : (n : ℕ) → 0 < n → (fields : Option (List ℕ))
-    → dataOf n fields
-    ≡ cond (leb n 16) (onFirst (firstOf wholeOf fields) (Values.Bad 6) (λ descriptor fields₁. described n descriptor fields₁)) (Values.Bad 5)
-unfolding dataOf
-some-data-of zero h fields = absurd (omega arith)
-some-data-of (suc n) h fields = refl
-
 module _ (n : ℕ) (some-data : 0 < n) (few : n ≤ 16) where
   pub data-none : dataOf n none ≡ Values.Bad 6
   unfolding firstOf
-  data-none = some-data-of n some-data none ∙ rw (le-leb n 16 few)
+  data-none = data-few n some-data few none
 
   pub data-some : (l : List ℕ) → dataOf n (some l) ≡ onField (wholeOf (field l)) (Values.Bad 6) (λ v. described n v (rest l))
-  data-some l = some-data-of n some-data (some l) ∙ rw (le-leb n 16 few) (took wholeOf l _ _)
+  data-some l = data-few n some-data few (some l) ∙ took wholeOf l _ _
 
   data-row-few : (fields : Option (List ℕ)) (k : ℕ) → dataOf n fields ≡ Values.Bad k → BadData n fields k
   data-row-few none k e = let z : 6 ≡ k = let q = data-none in cc in rw (← z) (no-descriptor some-data few)
   data-row-few (some l) k e = descriptor-row n some-data few l k _ refl (sym (data-some l) ∙ e)
-
-pub data-many : (n : ℕ) (fields : Option (List ℕ)) → 16 < n → dataOf n fields ≡ Values.Bad 5
-data-many n fields h = some-data-of n (omega arith) fields ∙ rw (lt-leb n 16 h)
 
 pub data-row : (n : ℕ) (fields : Option (List ℕ)) (k : ℕ) → dataOf n fields ≡ Values.Bad k → BadData n fields k
 unfolding dataOf valuesOf asOthers

@@ -1,11 +1,11 @@
 -- Row 10: well-formed data without a message lack what the row says, and in the field that it names.
 use Prim.Native.Nat.{ℕ, zero, suc}
 use native.Mathlib.Omega.{arith}
-use mathlib.Core.Path.{_≡_, refl, sym, ap, _∙_}
+use mathlib.Core.Path.{_≡_, refl, sym, _∙_}
 use mathlib.Core.Logic.{_⊎_, inl, inr}
 use mathlib.Core.Bool.{Bool, true, false, cond, _&&_}
 use mathlib.Core.Option.{Option, none, some}
-use mathlib.Core.List.{List, [], _∷_}
+use mathlib.Core.List.{List}
 use lib.ListN.{length}
 use lib.IntN.{ℤ, pos, negsuc}
 use lib.Signed.{leZ, leZ-yes, ltZ-yes, clashℤ, _≤ℤ_, _<ℤ_}
@@ -13,7 +13,7 @@ use lib.Dec.{leb, eqb}
 use borrow.Author.Tests.{eqb-true, eqb-false, eq-eqb, ne-eqb, le-leb, leb-true, leb-false}
 use Rattle.paper.specs.Tests.{eqZ, upTo}
 use Rattle.paper.specs.Forms.{wholeOf, timeOf}
-use Rattle.paper.specs.Line.{field, rest, First, nothing, first, onField, onFirst, firstOf, Numbers, wrong, numbers, pushed, valuesOf, asWholes, asOthers, described, dataOf, messageOf, lacking}
+use Rattle.paper.specs.Line.{field, rest, onField, Numbers, wrong, numbers, valuesOf, asWholes, asOthers, described, dataOf, messageOf, lacking}
 use Rattle.paper.specs.declared.Data.{Data}
 use Rattle.paper.specs.declared.Data.the-variants.{Three, Others}
 use Rattle.paper.specs.declared.Field.{Field}
@@ -23,25 +23,11 @@ use Rattle.paper.specs.declared.Message.{Message}
 use Rattle.paper.specs.declared.Values.{Values}
 use Rattle.paper.specs.declared.Values.the-variants as Values
 use Rattle.forms.proofs.Tests.{never}
+use Rattle.reading.proofs.Data.{values-many, WholesTold, wholes-told, data-many}
 use Rattle.demands.specs.Rows.{Lacks, other-count, other-descriptor, bad-length, bad-peer}
-use Rattle.demands.proofs.DataRows.{WholesTold, wholes-told, read-tells, data-none, data-some, data-many}
+use Rattle.demands.proofs.DataRows.{read-tells, data-none, data-some}
 
 -- ---- the data are as many as stated
-
-values-many : (form : List ℕ → Field) (j n : ℕ) (fields : Option (List ℕ)) (vs : List ℤ) → valuesOf form j n fields ≡ numbers vs → length vs ≡ n
-unfolding valuesOf
-values-many form j zero none vs e = let z : [] ≡ vs = cc in rw (← z)
-values-many form j zero (some l) vs e = never (cc)
-values-many form j (suc n) fields vs e = go (λ more us. values-many form (suc j) n more us) (firstOf form fields) e
-  where
-    push : (v : ℤ) (x : Numbers) → ((us : List ℤ) → x ≡ numbers us → length us ≡ n) → pushed v x ≡ numbers vs → length vs ≡ suc n
-    push v (wrong k) later e = never (cc)
-    push v (numbers us) later e = let z : v ∷ us ≡ vs = cc in rw (← z) (ap suc (later us refl))
-
-    go : ((more : Option (List ℕ)) (us : List ℤ) → valuesOf form (suc j) n more ≡ numbers us → length us ≡ n)
-        → (x : First) → onFirst x (wrong j) (λ v more. pushed v (valuesOf form (suc j) n more)) ≡ numbers vs → length vs ≡ suc n
-    go later nothing e = never (cc)
-    go later (first v more) e = push v (valuesOf form (suc j) n more) (later more) e
 
 -- whole numbers are kept as three exactly if three are stated
 abbrev Kept : ℕ → Data → Type 0

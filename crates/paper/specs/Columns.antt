@@ -18,6 +18,7 @@ unfoldable pub columnOf : ℕ → List ℕ → ℕ
 columnOf zero l = 1
 columnOf (suc k) l = cond (goesOn l) (suc (indexOf 32 l) + columnOf k (after l)) (pastEnd l)
 
+-- of what decides in a line that is refused, 0 where that is no field
 unfoldable pub columnIn : List ℕ → Spot → ℕ
 columnIn l (Field k) = columnOf k l
 columnIn l Whole = 0

@@ -75,6 +75,7 @@ pub record Reading : Type 0 where
 abbrev pub withEntry : Entry → Reading → Reading
 withEntry e r = record { stop = r .stop; entries = e ∷ r .entries; state = r .state }
 
+-- one that ends at a line, refused at a column of it
 abbrev pub stopsAt : Fault → ℕ → ℕ → State → Reading
 stopsAt fault n column st = record { stop = At fault (inLine n column); entries = []; state = st }
 

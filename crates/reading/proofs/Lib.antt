@@ -6,5 +6,6 @@ pub mod Joined
 pub mod Along
 pub mod Heads
 pub mod Tidy
+pub mod Data
 pub mod Starts
 pub mod Sixes

@@ -348,7 +348,7 @@ samples =
     ∷ badLine "x y\n" 5 4 "refused 5 line 1 column 4\n"
     ∷ badLine "\n" 5 1 "refused 5 line 1 column 1\n"
     -- an empty field begins where it would stand
-    ∷ badLine "-3 0  0 0 0 0\n" 6 6 "refused 6 line 1 column 6\n"
+    ∷ badLine "-3 0  0 0 0\n" 6 6 "refused 6 line 1 column 6\n"
     ∷ badLine "-3 0 0.000000 0 0 \n" 5 19 "refused 5 line 1 column 19\n"
     -- "a field too many is one", and so is the one behind a space at the end, and all that follows the six of an unlisted line
     ∷ badLine "-3 0 0.000000 0 0 0 2\n" 5 21 "refused 5 line 1 column 21\n"

@@ -1,19 +1,20 @@
 -- The data of a listed record.
 use Prim.Native.Nat.{ℕ, zero, suc, _+_, _-_, _≤_, _<_}
-use mathlib.Core.Path.{_≡_, refl, ap}
-use mathlib.Core.List.{List, [], _∷_}
+use mathlib.Core.Path.{_≡_, refl, sym, _∙_}
+use mathlib.Core.Logic.{inl, inr}
+use mathlib.Core.List.{List}
 use mathlib.Core.Bool.{true, false}
-use mathlib.Core.Option.{Option, none, some}
+use mathlib.Core.Option.{Option}
 use native.Mathlib.Omega.{arith}
 use lib.ListN.{length}
 use lib.IntN.{ℤ, pos}
-use borrow.Author.Tests.{le-leb, lt-leb}
 use Rattle.paper.specs.Tests.{eqZ}
 use Rattle.paper.specs.Forms.{wholeOf, timeOf}
-use Rattle.paper.specs.Line.{First, nothing, first, onFirst, firstOf, Numbers, wrong, numbers, pushed, valuesOf, asWholes, asOthers, described, dataOf}
+use Rattle.paper.specs.Line.{nothing, first, firstOf, Numbers, wrong, numbers, pushed, valuesOf, asWholes, asOthers, described, dataOf}
 use Rattle.paper.specs.declared.Field.{Field}
 use Rattle.paper.specs.declared.Data.the-variants.{Three, Others}
 use Rattle.paper.specs.declared.Values.the-variants.{Good, Bad}
+use Rattle.reading.proofs.Data.{values-many, WholesTold, wholes-told, data-few, data-many}
 use Rattle.field.specs.Cursor.{restAt}
 use Rattle.field.proofs.Cursors.{past, inside}
 
@@ -67,37 +68,18 @@ three-made p q r = rw (p, q, r)
 
 -- ---- other data
 
--- data are as many as stated
-values-many : (form : List ℕ → Field) (k n : ℕ) (f : Option (List ℕ)) (vs : List ℤ) → valuesOf form k n f ≡ numbers vs → length vs ≡ n
-unfolding valuesOf
-values-many form k zero none vs e = let q : [] ≡ vs = cc in rw (← q)
-values-many form k zero (some l) vs e = cc
-values-many form k (suc n) f vs e = go (λ g us. values-many form (suc k) n g us) (firstOf form f) e
-  where
-    push : (v : ℤ) (x : Numbers) → ((us : List ℤ) → x ≡ numbers us → length us ≡ n) → pushed v x ≡ numbers vs → length vs ≡ suc n
-    push v (wrong j) later e = cc
-    push v (numbers us) later e = let q : v ∷ us ≡ vs = cc in rw (← q) (ap suc (later us refl))
-
-    go : ((g : Option (List ℕ)) (us : List ℤ) → valuesOf form (suc k) n g ≡ numbers us → length us ≡ n)
-        → (x : First) → onFirst x (wrong k) (λ v g. pushed v (valuesOf form (suc k) n g)) ≡ numbers vs → length vs ≡ suc n
-    go later nothing e = cc
-    go later (first v g) e = push v (valuesOf form (suc k) n g) (later g) e
-
 -- only three whole numbers are told from other data
 pub not-three : (form : List ℕ → Field) (k n : ℕ) (f : Option (List ℕ)) → (n ≡ 3 → ⊥) → asOthers (valuesOf form k n f) ≡ asWholes (valuesOf form k n f)
 unfolding asOthers asWholes
 not-three form k n f h = go (valuesOf form k n f) refl
   where
-    other : (vs : List ℤ) → length vs ≡ n → Good Others ≡ asWholes (numbers vs)
-    other [] e = refl
-    other (a ∷ []) e = refl
-    other (a ∷ b ∷ []) e = refl
-    other (a ∷ b ∷ c ∷ []) e = absurd (h (omega arith))
-    other (a ∷ b ∷ c ∷ d ∷ vs) e = refl
+    other : (vs : List ℤ) → length vs ≡ n → WholesTold vs → Good Others ≡ asWholes (numbers vs)
+    other vs many (inl (three, a, b, c, told)) = absurd (h (sym many ∙ three))
+    other vs many (inr (not-so-many, told)) = sym told
 
     go : (x : Numbers) → valuesOf form k n f ≡ x → asOthers x ≡ asWholes x
     go (wrong j) e = refl
-    go (numbers vs) e = other vs (values-many form k n f vs e)
+    go (numbers vs) e = other vs (values-many form k n f vs e) (wholes-told vs)
 
 -- ---- the descriptor
 
@@ -129,16 +111,11 @@ module _ (l : List ℕ) (at : ℕ) where
 
 module _ (f : Option (List ℕ)) where
   pub too-many : (n : ℕ) → 16 < n → Bad 5 ≡ dataOf n f
-  unfolding dataOf
-  too-many zero h = absurd (omega arith)
-  too-many (suc n) h = rw (lt-leb (suc n) 16 h)
+  too-many n h = sym (data-many n f h)
 
-  pub no-descriptor : (n : ℕ) → (n ≡ 0 → ⊥) → n ≤ 16 → firstOf wholeOf f ≡ nothing → Bad 6 ≡ dataOf n f
-  unfolding dataOf
-  no-descriptor zero z h e = absurd (z refl)
-  no-descriptor (suc n) z h e = rw (le-leb (suc n) 16 h, e)
+  module _ (n : ℕ) (z : n ≡ 0 → ⊥) (few : n ≤ 16) where
+    pub no-descriptor : firstOf wholeOf f ≡ nothing → Bad 6 ≡ dataOf n f
+    no-descriptor e = rw (data-few n (omega arith) few f, e)
 
-  pub with-descriptor : (n : ℕ) → (n ≡ 0 → ⊥) → n ≤ 16 → (d : ℤ) (g : Option (List ℕ)) → firstOf wholeOf f ≡ first d g → {u : ℤ} → u ≡ d → described n u g ≡ dataOf n f
-  unfolding dataOf
-  with-descriptor zero z h d g e p = absurd (z refl)
-  with-descriptor (suc n) z h d g e p = rw (le-leb (suc n) 16 h, e, p)
+    pub with-descriptor : (d : ℤ) (g : Option (List ℕ)) → firstOf wholeOf f ≡ first d g → {u : ℤ} → u ≡ d → described n u g ≡ dataOf n f
+    with-descriptor d g e p = rw (data-few n (omega arith) few f, e, p)

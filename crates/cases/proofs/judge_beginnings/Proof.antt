@@ -1,3 +1,4 @@
+-- `cases::judge_beginnings` is safe, and it ends: there are as many beginnings as bytes.
 use Prim.Native.Nat.{_≤_, _-_}
 use mathlib.Core.Path.{_≡_}
 use borrow.Author.Needs.{needs}
