@@ -16,7 +16,7 @@ pub struct Counts {
     pub rounds: usize,
 }
 
-fn number(fault: Fault) -> u64
+pub fn number(fault: Fault) -> u64
     ensures { λ r. ⌜ r ≡ numberOf fault ⌝ }
 {
     match fault {
@@ -37,6 +37,7 @@ fn number(fault: Fault) -> u64
         Fault::NoTimes => 15,
         Fault::NoRoom => 16,
         Fault::OtherLevels => 17,
+        Fault::SharedProcessor => 18,
     }
 }
 

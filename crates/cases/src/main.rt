@@ -1,8 +1,10 @@
 // Runs the program on each line of the file `list` and prints what it reports. A line has the arguments with one space between two,
 // so that a doubled space and one at the line's end make an empty argument; an empty line has none. A line that begins with '!' has
-// the named arguments of the program for rollouts, and one with '=' those of the program that makes tables. A line that begins with '>'
-// names a file, which is printed, and one with '?' two files, which are compared. A line that begins with ':' has a choice and a line of
-// a trace, which is a whole trace with its LF, and of one with '/' every beginning is, without an LF. A new case needs no proof.
+// the named arguments of the program for rollouts, one with '=' those of the program that makes tables, and one with '&' those of the program
+// that merges two traces. A line that begins with '>' names a file, which is printed, and one with '?' two files, which are compared. A
+// line that begins with ':' has a choice and a line of a trace, which is a whole trace with its LF, and of one with '/' every beginning is,
+// without an LF. A line that begins with '|' has a choice and two lines with a bar between them, a whole trace each, which are merged. A new
+// case needs no proof.
 ghost use mathlib.Core.Path.{_≡_};
 ghost use Prim.Native.Nat.{_≤_};
 ghost use lib.ListN.{length};
@@ -12,6 +14,7 @@ use libc::STDOUT_FILENO;
 fn main() {
     lock(b"locked");
     write_long();
+    write_filling();
     let mut list = io::large_buffer();
     let read = files::load(b"list", &mut list);
     let n = read.len;
@@ -28,8 +31,17 @@ fn lock(name: &[u8]) {
 // A text of latencies as long as one may be, and one with a byte more: a rule, and then a comment.
 fn write_long() {
     let text = long_text();
-    write(b"full.latencies", &text, 262_144);
-    write(b"overlong.latencies", &text, 262_145);
+    write(b"full.latencies", b"", &text[0..262_144], b"");
+    write(b"overlong.latencies", b"", &text, b"");
+}
+
+// Two traces of one line, which lenient passes over. With 40,960 bytes of another trace the first fills a room of 65,536, and the second has
+// a byte more.
+fn write_filling() {
+    let text = long_text();
+    let head = b"-5 0 0.000000 0 0 1 ";
+    write(b"fills.picl", head, &text[0..24_555], b"\n");
+    write(b"overfills.picl", head, &text[0..24_556], b"\n");
 }
 
 fn long_text() -> [u8; 262145]
@@ -44,13 +56,12 @@ fn long_text() -> [u8; 262145]
     text
 }
 
-// The first bytes of a text into a file.
-fn write(name: &[u8], text: &[u8], n: usize) {
-    if text.len() < n {
-        return;
-    }
-    let file = os::create(name);
-    io::write_all(file, &text[0..n]);
+// A text into a file, whatever it held, between what comes before and what comes behind it.
+fn write(name: &[u8], head: &[u8], text: &[u8], end: &[u8]) {
+    let file = os::open_overwrite(name);
+    io::write_all(file, head);
+    io::write_all(file, text);
+    io::write_all(file, end);
     libc::close(file);
 }
 
@@ -68,7 +79,7 @@ fn case(line: &[u8]) {
     print(line);
     print(b"\n");
     if line.len() == 0 {
-        shell::perform(1, line, line, line, line);
+        run(false, line);
         return;
     }
     match line[0] {
@@ -78,16 +89,32 @@ fn case(line: &[u8]) {
         b'!' => rollout::perform(&line[1..], b' '),
         b':' => judge_line(&line[1..]),
         b'/' => judge_beginnings(&line[1..]),
-        _ => run(line),
+        b'&' => run(true, &line[1..]),
+        b'|' => merge_lines(&line[1..]),
+        _ => run(false, line),
     }
 }
 
-// The words of a line as the program's arguments, with its own name in the count.
-fn run(line: &[u8]) {
+// The program that judges a trace, or the one that merges two: they take as many arguments.
+fn perform(merges: bool, count: usize, choice: &[u8], first: &[u8], second: &[u8], out: &[u8]) {
+    if merges {
+        gather::perform(count, choice, first, second, out);
+        return;
+    }
+    shell::perform(count, choice, first, second, out);
+}
+
+// The words of a line as its arguments, with its own name in the count.
+fn run(merges: bool, line: &[u8]) {
+    if line.len() == 0 {
+        perform(merges, 1, line, line, line, line);
+        return;
+    }
     let a = behind(line, 0);
     let b = behind(line, a);
     let c = behind(line, b);
-    shell::perform(
+    perform(
+        merges,
         spaces(line) + 2,
         word(line, 0),
         word(line, a),
@@ -119,30 +146,52 @@ fn judge_beginnings(line: &[u8]) {
 }
 
 fn judge_text(choice: &[u8], text: &[u8], end: &[u8]) {
-    let file = os::open_overwrite(b"text");
-    io::write_all(file, text);
-    io::write_all(file, end);
-    libc::close(file);
+    write(b"text", b"", text, end);
     shell::perform(4, choice, b"text", b"five.table", b"");
 }
 
-// The word that begins at a place, and where the next one begins: at the line's end where there is none.
+// What two lines are merged into is printed: nothing, where they are refused.
+fn merge_lines(line: &[u8]) {
+    let a = behind(line, 0);
+    let b = next(line, a, b'|');
+    write(b"one", b"", part(line, a, b'|'), b"\n");
+    write(b"other", b"", &line[b..], b"\n");
+    write(b"both", b"", b"", b"");
+    gather::perform(5, word(line, 0), b"one", b"other", b"both");
+    show(b"both");
+}
+
+// The part of a line that begins at a place and goes to a byte, and where the next one begins: at the line's end where there is none.
+fn part(line: &[u8], at: usize, stop: u8) -> &[u8]
+    requires { ⌜ at ≤ length (now line) ⌝ }
+{
+    let end = find(line, at, line.len(), stop);
+    &line[at..end]
+}
+
+fn next(line: &[u8], at: usize, stop: u8) -> usize
+    requires { ⌜ at ≤ length (now line) ⌝ }
+    ensures { λ r. ⌜ r ≤ length (now (line .entry)) ⌝ }
+{
+    let end = find(line, at, line.len(), stop);
+    if end < line.len() {
+        return end + 1;
+    }
+    end
+}
+
+// Words, which a space ends.
 fn word(line: &[u8], at: usize) -> &[u8]
     requires { ⌜ at ≤ length (now line) ⌝ }
 {
-    let end = find(line, at, line.len(), b' ');
-    &line[at..end]
+    part(line, at, b' ')
 }
 
 fn behind(line: &[u8], at: usize) -> usize
     requires { ⌜ at ≤ length (now line) ⌝ }
     ensures { λ r. ⌜ r ≤ length (now (line .entry)) ⌝ }
 {
-    let end = find(line, at, line.len(), b' ');
-    if end < line.len() {
-        return end + 1;
-    }
-    end
+    next(line, at, b' ')
 }
 
 fn spaces(line: &[u8]) -> usize

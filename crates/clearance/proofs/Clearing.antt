@@ -41,24 +41,28 @@ module _ (l : List ℕ) (i : ℕ) where
 
 -- ---- 1
 
+module _ (n : ℕ) where
+  pub names-strict : n ≡ 1 → heardOf (Of Strict) ≡ choiceOf n
+  unfolding choiceOf heardOf
+  names-strict e = rw e
+
+  module _ (not-strict : n ≡ 1 → ⊥) where
+    pub names-lenient : n ≡ 2 → heardOf (Of Lenient) ≡ choiceOf n
+    unfolding choiceOf heardOf
+    names-lenient e = rw e
+
+    pub names-nothing : (n ≡ 2 → ⊥) → heardOf Nothing ≡ choiceOf n
+    unfolding choiceOf heardOf
+    names-nothing not-lenient = rw (ne-eqb n 1 not-strict, ne-eqb n 2 not-lenient)
+
 module _ (a : Asked) where
   pub hears-no-switch : 1 < a .levels → heardOf Nothing ≡ heard a
   unfolding heard heardOf
   hears-no-switch h = rw (lt-leb (a .levels) 1 h)
 
-  module _ (switch : a .levels ≤ 1) where
-    pub hears-strict : a .choice ≡ 1 → heardOf (Of Strict) ≡ heard a
-    unfolding heard choiceOf heardOf
-    hears-strict e = rw (le-leb (a .levels) 1 switch, e)
-
-    module _ (not-strict : a .choice ≡ 1 → ⊥) where
-      pub hears-lenient : a .choice ≡ 2 → heardOf (Of Lenient) ≡ heard a
-      unfolding heard choiceOf heardOf
-      hears-lenient e = rw (le-leb (a .levels) 1 switch, e)
-
-      pub hears-nothing : (a .choice ≡ 2 → ⊥) → heardOf Nothing ≡ heard a
-      unfolding heard choiceOf heardOf
-      hears-nothing n = rw (le-leb (a .levels) 1 switch, ne-eqb (a .choice) 1 not-strict, ne-eqb (a .choice) 2 n)
+  pub hears-choice : a .levels ≤ 1 → (h : Heard) → heardOf h ≡ choiceOf (a .choice) → heardOf h ≡ heard a
+  unfolding heard
+  hears-choice switch h e = rw (le-leb (a .levels) 1 switch) e
 
 -- ---- 2 to 4
 

@@ -1,6 +1,6 @@
 // "1 to 4": what is asked of the choice and the levels' switch, the lent table, the number of lent times and the size of the trace.
 ghost use mathlib.Core.Path.{_≡_};
-ghost use Rattle.paper.specs.Answer.{heard, lowLatencies};
+ghost use Rattle.paper.specs.Answer.{choiceOf, heard, lowLatencies};
 ghost use Rattle.clearance.specs.Clearance.{givenOf, heardOf, clearedUnder, clearance};
 use paper::Asked;
 use paper::Choice;
@@ -13,9 +13,22 @@ pub enum Cleared {
 }
 
 // What the caller named, or nothing that is known.
-enum Heard {
+pub enum Heard {
     Of(Choice),
     Nothing,
+}
+
+// "1 (strict)", "2 (lenient)"
+pub fn choice_of(choice: u32) -> Heard
+    ensures { λ r. ⌜ heardOf r ≡ choiceOf choice ⌝ }
+{
+    if choice == 1 {
+        return Heard::Of(Choice::Strict);
+    }
+    if choice == 2 {
+        return Heard::Of(Choice::Lenient);
+    }
+    Heard::Nothing
 }
 
 fn hear(asked: Asked) -> Heard
@@ -24,13 +37,7 @@ fn hear(asked: Asked) -> Heard
     if 1 < asked.levels {
         return Heard::Nothing;
     }
-    if asked.choice == 1 {
-        return Heard::Of(Choice::Strict);
-    }
-    if asked.choice == 2 {
-        return Heard::Of(Choice::Lenient);
-    }
-    Heard::Nothing
+    choice_of(asked.choice)
 }
 
 // "each at most 1,000,000"

@@ -6,10 +6,18 @@ use borrow.Author.Tests.{not-true, not-false}
 use Rattle.paper.specs.Columns.{nowhere}
 use Rattle.paper.specs.declared.Answer.{Answer}
 use Rattle.paper.specs.declared.Fault.the-variants as Fault
+use Rattle.paper.specs.declared.Joined.{Joined}
+use Rattle.paper.specs.declared.Joint.{Joint}
+use Rattle.paper.specs.declared.Joint.the-variants as Joint
+use Rattle.paper.specs.declared.Merged.{Merged}
+use Rattle.paper.specs.declared.Fault.{Fault}
+use Rattle.paper.specs.declared.Which.{Which}
+use Rattle.paper.specs.declared.Site.{Site}
 use Rattle.answer.specs.Answers.{refusal}
+use Rattle.report.specs.declared.Replied.the-variants as Replied
 use Rattle.report.specs.declared.Said.the-variants.{Answered, CannotRead, CannotWrite}
 use Rattle.decided.specs.declared.Readiness.the-variants.{Both, Ended}
-use Rattle.decided.specs.Decided.{readyOf, storing, endOf}
+use Rattle.decided.specs.Decided.{readyOf, storing, endOf, afterMerging}
 
 -- ---- before the judgement
 
@@ -55,3 +63,20 @@ module _ (storing stored : Bool) (answer : Answer) where
   pub not-stored : not storing ≡ false → stored ≡ false → CannotWrite ≡ endOf storing answer stored
   unfolding endOf
   not-stored e f = rw (not-false storing e, f)
+
+-- ---- the end of a merging
+
+module _ (joint : Joint) (merged : Merged) (stored : Bool) where
+  pub not-merged : {fault : Fault} {which : Which} {site : Site} → joint ≡ Joint.Refused fault which site
+      → Replied.Refused merged ≡ afterMerging joint merged stored
+  unfolding afterMerging
+  not-merged e = rw e
+
+  module _ {joined : Joined} (is : joint ≡ Joint.Of joined) where
+    pub unstored : not stored ≡ true → Replied.CannotWrite ≡ afterMerging joint merged stored
+    unfolding afterMerging
+    unstored e = rw (is, not-true stored e)
+
+    pub as-one : not stored ≡ false → Replied.Merged joined ≡ afterMerging joint merged stored
+    unfolding afterMerging
+    as-one e = rw (is, not-false stored e)

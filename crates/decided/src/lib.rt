@@ -1,9 +1,12 @@
-// What is said of two files, as far as it goes by what the system told of them: before they are judged, and at the end. The functions
-// that ask the system are those of `filed`.
+// What is said of two files, as far as it goes by what the system told of them: before they are judged, and at the end; and at the end of
+// a merging. The functions that ask the system are those of `filed` and `gather`.
 ghost use mathlib.Core.Path.{_≡_};
-ghost use Rattle.decided.specs.Decided.{readyOf, storing, endOf};
+ghost use Rattle.decided.specs.Decided.{readyOf, storing, endOf, afterMerging};
 use paper::Answer;
 use paper::Fault;
+use paper::Joint;
+use paper::Merged;
+use report::Replied;
 use report::Said;
 
 // Whether there is a trace and a table to judge it by, or what is said without.
@@ -49,4 +52,19 @@ pub fn ended(storing: bool, answer: Answer, stored: bool) -> Said
         return Said::Answered(answer);
     }
     Said::CannotWrite
+}
+
+// What two traces came to as one, or that it could not be stored. A refusal is told in its numbers, which `merged` has.
+pub fn after_merging(joint: Joint, merged: Merged, stored: bool) -> Replied
+    ensures { λ r. ⌜ r ≡ afterMerging joint merged stored ⌝ }
+{
+    match joint {
+        Joint::Refused(_, _, _) => Replied::Refused(merged),
+        Joint::Of(joined) => {
+            if !stored {
+                return Replied::CannotWrite;
+            }
+            Replied::Merged(joined)
+        }
+    }
 }

@@ -18,6 +18,7 @@ use Rattle.paper.specs.declared.Entry.{Entry}
 use Rattle.paper.specs.declared.Stop.the-variants.{End}
 use Rattle.matching.proofs.Times.{Alike, same-size, same-matched, same-matched-count, same-unreceived-count}
 use Rattle.matching.proofs.Levels.{same-levels}
+use Rattle.reading.proofs.Bytes.{clean-lines}
 use Rattle.reading.proofs.Along.{along-back}
 use Rattle.demands.specs.Parts.{corrected, writtenTrace, written, time}
 use Rattle.demands.specs.Steps.{Chosen, reading, entries, Accepted, original}
@@ -30,7 +31,7 @@ use Rattle.demands.proofs.Allowed.{sound-allowed, still}
 use Rattle.demands.proofs.Times.{one-choice, answer, size, listed-is, time-is}
 use Rattle.demands.proofs.Refusals.{accepted-exactly}
 use Rattle.demands.proofs.Accepted.{corrected-are, written-trace, written-length, matched-is, unreceived-is, passed-is, along-trace, rounds-are, accepted-answer}
-use Rattle.demands.proofs.Written.{clean-lines, same-but-stamps}
+use Rattle.demands.proofs.Written.{same-but-stamps}
 use Rattle.demands.proofs.Rising.{Rises, rises, between}
 use Rattle.demands.proofs.Resettled.{there, written-settle}
 use Rattle.demands.proofs.Reread.{withTimes, times-alike, reread, rewritten}

@@ -24,7 +24,7 @@ carries number column low high c = (λ n. c, λ h. (low, high))
 pub below-5 : (number column : ℕ) → number < 5 → column ≡ 0 → Carries number column
 below-5 number column low c = (λ (a, b). absurd (omega arith), λ h. absurd (omega arith))
 
-above-10 : (number column : ℕ) → 10 < number → column ≡ 0 → Carries number column
+pub above-10 : (number column : ℕ) → 10 < number → column ≡ 0 → Carries number column
 above-10 number column high c = (λ (a, b). absurd (omega arith), λ h. absurd (omega arith))
 
 module _ (i : Inputs) (s : Site) where
@@ -54,3 +54,4 @@ module _ (i : Inputs) (s : Site) where
   row-carries Fault.NoTimes (choice, m, none-sound, e) = above-10 15 (s .column) (omega arith) (no-column e)
   row-carries Fault.NoRoom (choice, rounds, times, m, settles, wanted, l, e) = above-10 16 (s .column) (omega arith) (no-column e)
   row-carries Fault.OtherLevels (o, e) = above-10 17 (s .column) (omega arith) e
+  row-carries Fault.SharedProcessor never = absurd never

@@ -5,7 +5,7 @@ use mathlib.Core.Path.{_≡_, refl, sym, ap, _∙_}
 use mathlib.Core.List.{List, _++_}
 use lib.ListN.{length, length-append}
 use Rattle.paper.specs.Clock.{settled, settle}
-use Rattle.paper.specs.Reading.{Lines, linesOf, State, Reading, readOf}
+use Rattle.paper.specs.Reading.{linesOf, Reading, readOf}
 use Rattle.paper.specs.Matching.{matchedOf, waitsOf}
 use Rattle.paper.specs.Answer.{Inputs, given, most}
 use Rattle.paper.specs.declared.Choice.{Choice}
@@ -15,7 +15,8 @@ use Rattle.paper.specs.declared.Stop.the-variants.{End, At}
 use Rattle.matching.proofs.FirstLines.{waits-begin}
 use Rattle.reading.specs.Joined.{AllEnded, resumed}
 use Rattle.reading.proofs.Joined.{read-joined}
-use Rattle.reading.proofs.Along.{Reads, ends, passes, lists, along, one-reading}
+use Rattle.reading.proofs.Along.{along, one-reading}
+use Rattle.reading.proofs.Counted.{all-ended}
 use Rattle.rounds.specs.Compare.{First}
 use Rattle.rounds.proofs.Prefix.{first-times}
 use Rattle.demands.specs.Steps.{entries, waits, Accepted}
@@ -24,15 +25,7 @@ use Rattle.demands.specs.Demand3.{Longer}
 use Rattle.demands.proofs.Closed.{waits-closed}
 use Rattle.demands.proofs.Times.{one-choice, listed-is, time-is}
 
--- ---- a trace that is read to its end has an LF behind each line
-
-all-ended : {choice : Choice} {most : ℕ} {x : Lines} {n : ℕ} {st st₁ : State} {es : List Entry} → Reads choice most x n st es st₁ → AllEnded x
-unfolding AllEnded
-all-ended ends = tt
-all-ended (passes p more) = all-ended more
-all-ended (lists p above room more) = all-ended more
-
--- so bytes behind it only add records, where the whole is read to its end too
+-- a trace that is read to its end has an LF behind each line: bytes behind it only add records, where the whole is read to its end too
 module _ (choice : Choice) (most : ℕ) (s more : List ℕ) (whole : readOf choice most (s ++ more) .stop ≡ End) (ended : AllEnded (linesOf s)) where
   first-whole : readOf choice most s .stop ≡ End
   unfolding resumed

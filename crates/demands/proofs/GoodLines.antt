@@ -13,6 +13,7 @@ use lib.Signed.{ltZ, ltZ-yes, ltZ-no, clashℤ}
 use lib.Dec.{eqb, leb}
 use borrow.Author.Tests.{eq-eqb, ne-eqb, leb-true, leb-false, le-leb, lt-leb, le-ltb}
 use Rattle.paper.specs.Line.{lineOf}
+use Rattle.paper.specs.Numbers.{numberOf}
 use Rattle.paper.specs.Columns.{pastEnd, columnIn, inLine}
 use Rattle.paper.specs.Reading.{Lines, done, unended, ended, State, start, Reading, checked, withPassed, withListed, withEntry, onLine, readFrom}
 use Rattle.paper.specs.Matching.{entryAt, lastOf, lastOn}
@@ -35,8 +36,9 @@ use Rattle.matching.proofs.FirstLines.{entry-stays, last-stays}
 use Rattle.demands.specs.Steps.{original}
 use Rattle.demands.specs.Before.{Below, Good, none-before, passed-over, listed}
 use Rattle.demands.specs.Rows.{Backwards, TooMany}
+use Rattle.demands.proofs.Stops.{OfALine}
 use Rattle.demands.proofs.InOrder.{start-size}
-use Rattle.demands.proofs.LineRows.{RowIn, refused-row, row-refused}
+use Rattle.demands.proofs.LineRows.{RowIn, row-number, refused-row, row-refused}
 
 -- ---- the state that some listed records leave
 
@@ -198,6 +200,13 @@ module _ (choice : Choice) (limit : ℕ) (lines : Lines) where
     in-line : {fault : Fault} {spot : Spot} {l : List ℕ} {x : Lines} → RowIn choice l fault spot → StopsOn es fault (ended l x) (columnIn l spot)
     backwards : {l : List ℕ} {x : Lines} → Backwards es choice l → StopsOn es Fault.Backwards (ended l x) 0
     too-many : {l : List ℕ} {x : Lines} → TooMany limit es choice l → StopsOn es Fault.TooMany (ended l x) 0
+
+  pub stops-number : {es : List Entry} {fault : Fault} {rest : Lines} {column : ℕ} → StopsOn es fault rest column → OfALine fault
+  unfolding numberOf
+  stops-number no-end = (omega arith, omega arith)
+  stops-number (in-line row) = let (low, high) = row-number row in (low, omega (arith, high))
+  stops-number (backwards r) = (omega arith, omega arith)
+  stops-number (too-many r) = (omega arith, omega arith)
 
   stop-here : (n : ℕ) (es : List Entry) (st : State) → Held es st → {fault : Fault} {rest : Lines} {column : ℕ} → StopsOn es fault rest column
       → readFrom choice limit rest n st .stop ≡ At fault (inLine n column)

@@ -1,5 +1,5 @@
 -- Rows 5 to 10: what a line is refused for, and the field that decides, are what the row says of it.
-use Prim.Native.Nat.{ℕ}
+use Prim.Native.Nat.{ℕ, _≤_}
 use native.Mathlib.Omega.{arith}
 use mathlib.Core.Path.{_≡_, refl, sym, _∙_}
 use mathlib.Core.Logic.{inl, inr}
@@ -7,6 +7,7 @@ use mathlib.Core.Bool.{Bool, true, false, cond, _&&_}
 use mathlib.Core.Option.{Option, none, some}
 use mathlib.Core.List.{List}
 use lib.IntN.{pos}
+use Rattle.paper.specs.Numbers.{numberOf}
 use Rattle.paper.specs.Tests.{eqZ, upTo}
 use Rattle.paper.specs.Forms.{wholeOf, timeOf}
 use Rattle.paper.specs.Events.{listedKind, standingOf}
@@ -44,6 +45,15 @@ pub data RowIn (choice : Choice) (l : List ℕ) : Fault → Spot → Type 0 wher
   handled-row : {k : ℕ} → NotHandled l k → RowIn choice l Fault.NotHandled (Spot.Field k)
   place-row : {k : ℕ} → BadPlace l k → RowIn choice l Fault.Place (Spot.Field k)
   message-row : {k : ℕ} → NoMessage l k → RowIn choice l Fault.NoMessage (Spot.Field k)
+
+pub row-number : {choice : Choice} {l : List ℕ} {fault : Fault} {spot : Spot} → RowIn choice l fault spot → (5 ≤ numberOf fault) × (numberOf fault ≤ 10)
+unfolding numberOf
+row-number (form-row r) = (omega arith, omega arith)
+row-number (stamp-row r) = (omega arith, omega arith)
+row-number (strict-row r) = (omega arith, omega arith)
+row-number (handled-row r) = (omega arith, omega arith)
+row-number (place-row r) = (omega arith, omega arith)
+row-number (message-row r) = (omega arith, omega arith)
 
 -- the field of an unlisted line, and of one off its place
 unknown-is : {h : Head} {k : ℕ} → Unlisted h k → unknown h ≡ k

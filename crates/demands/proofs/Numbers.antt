@@ -14,7 +14,7 @@ faultOf n =
     getD
     (Fault.BadChoice ∷ Fault.BadChoice ∷ Fault.WrongLength ∷ Fault.HighLatency ∷ Fault.LongTrace ∷ Fault.Form ∷ Fault.Stamp
     ∷ Fault.Unlisted ∷ Fault.NotHandled ∷ Fault.Place ∷ Fault.NoMessage ∷ Fault.Backwards ∷ Fault.TooMany ∷ Fault.NoSend
-    ∷ Fault.LongReceive ∷ Fault.NoTimes ∷ Fault.NoRoom ∷ Fault.OtherLevels ∷ [])
+    ∷ Fault.LongReceive ∷ Fault.NoTimes ∷ Fault.NoRoom ∷ Fault.OtherLevels ∷ Fault.SharedProcessor ∷ [])
     n Fault.BadChoice
 
 back : (fault : Fault) → faultOf (numberOf fault) ≡ fault
@@ -36,6 +36,7 @@ back Fault.LongReceive = refl
 back Fault.NoTimes = refl
 back Fault.NoRoom = refl
 back Fault.OtherLevels = refl
+back Fault.SharedProcessor = refl
 
 pub one-fault : (a b : Fault) → numberOf a ≡ numberOf b → a ≡ b
 one-fault a b e = sym (back a) ∙ ap faultOf e ∙ back b

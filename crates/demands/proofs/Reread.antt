@@ -19,11 +19,12 @@ use Rattle.forms.proofs.Back.{there-and-back}
 use Rattle.matching.proofs.Times.{untimed, Alike}
 use Rattle.reading.specs.Retimed.{recordAt}
 use Rattle.reading.specs.Tidy.{InRange}
+use Rattle.reading.proofs.Bytes.{Clean}
 use Rattle.reading.proofs.Stamp.{listed-stamped}
 use Rattle.reading.proofs.Along.{Reads, ends, passes, lists}
 use Rattle.demands.specs.Steps.{original}
 use Rattle.demands.proofs.Stamps.{no-space, stamp-twice}
-use Rattle.demands.proofs.Written.{Clean, written-passed, written-listed}
+use Rattle.demands.proofs.Written.{written-passed, written-listed}
 use Rattle.demands.proofs.Rising.{Rises}
 
 -- ---- entries with other times

@@ -1,5 +1,6 @@
 -- Every call reaches its times or is in a row of the table, and stops as its row says: but for 16, which is decided after `reach`.
 use Prim.Native.Nat.{ℕ}
+use native.Mathlib.Omega.{arith}
 use mathlib.Core.Path.{_≡_, refl, sym, ap, _∙_}
 use mathlib.Core.Logic.{_⊎_, inl, inr}
 use mathlib.Core.Bool.{Bool, true, false}
@@ -8,6 +9,7 @@ use mathlib.Core.List.{List}
 use lib.ListN.{length}
 use lib.IntN.{ℤ}
 use lib.Dec.{leb}
+use Rattle.paper.specs.Numbers.{numberOf}
 use Rattle.paper.specs.Columns.{nowhere}
 use Rattle.paper.specs.Levels.{levelsOf}
 use Rattle.paper.specs.Matching.{matchedOf}
@@ -17,16 +19,16 @@ use Rattle.paper.specs.declared.Choice.{Choice}
 use Rattle.paper.specs.declared.Fault.{Fault}
 use Rattle.paper.specs.declared.Fault.the-variants as Fault
 use Rattle.paper.specs.declared.Site.{Site}
-use Rattle.paper.specs.declared.Spot.the-variants as Spot
 use Rattle.paper.specs.declared.Stop.{Stop}
 use Rattle.paper.specs.declared.Stop.the-variants.{End, At}
 use Rattle.rounds.proofs.Meaning.{impossible-iff}
 use Rattle.demands.specs.Steps.{Chosen, RightLengths, LowLatencies, Begun, reading, entries, Read, Levelled, Matched, waits}
 use Rattle.demands.specs.Rows.{BadForm, BadStamp, UnlistedStrict, NotHandled, BadPlace, NoMessage, NoSend, LongReceive}
-use Rattle.demands.specs.Table.{InField, When}
+use Rattle.demands.specs.Table.{When}
+use Rattle.demands.proofs.Stops.{OfALine, BadLine}
 use Rattle.demands.proofs.Tests.{untold, lengths-tell, lows-tell, short-tells, unchosen, neither}
 use Rattle.demands.proofs.Closed.{waits-closed}
-use Rattle.demands.proofs.LineRows.{RowIn, form-row, stamp-row, strict-row, handled-row, place-row, message-row}
+use Rattle.demands.proofs.LineRows.{form-row, stamp-row, strict-row, handled-row, place-row, message-row}
 use Rattle.demands.proofs.ReceiveRows.{no-send-calls, long-receive-calls}
 use Rattle.demands.proofs.Said.{end-stops, field-stops, backwards-stops, many-stops, levels-stop, call-stops, when-line, when-levels, when-receive}
 use Rattle.demands.proofs.Reached.{reach-choice, reach-length, reach-latency, reach-long, reach-line, reach-levels, reach-receive, reach-times}
@@ -91,27 +93,48 @@ module _ (i : Inputs) where
 
   -- ---- where a row stops
 
-  in-field : (s : Site) (fault : Fault) (bad : Choice → List ℕ → ℕ → Type 0)
-      → ((choice : Choice) (l : List ℕ) (k : ℕ) → bad choice l k → RowIn choice l fault (Spot.Field k)) → InField i s bad
-      → reach (given i) ≡ stopped fault s
-  in-field s fault bad means f = reach-line i fault s (field-stops i s fault bad means f)
+  -- 5 to 12 are where the reading stops
+  pub row-line : (fault : Fault) (s : Site) → OfALine fault → When i fault s → BadLine i fault s
+  unfolding When numberOf
+  row-line Fault.BadChoice s (low, high) w = absurd (omega arith)
+  row-line Fault.WrongLength s (low, high) w = absurd (omega arith)
+  row-line Fault.HighLatency s (low, high) w = absurd (omega arith)
+  row-line Fault.LongTrace s (low, high) w = absurd (omega arith)
+  row-line Fault.Form s n (inl e) = end-stops i s e
+  row-line Fault.Form s n (inr f) = field-stops i s Fault.Form (λ choice. BadForm) (λ choice l k. form-row) f
+  row-line Fault.Stamp s n f = field-stops i s Fault.Stamp (λ choice. BadStamp) (λ choice l k. stamp-row) f
+  row-line Fault.Unlisted s n f = field-stops i s Fault.Unlisted UnlistedStrict (λ choice l k. strict-row) f
+  row-line Fault.NotHandled s n f = field-stops i s Fault.NotHandled (λ choice. NotHandled) (λ choice l k. handled-row) f
+  row-line Fault.Place s n f = field-stops i s Fault.Place (λ choice. BadPlace) (λ choice l k. place-row) f
+  row-line Fault.NoMessage s n f = field-stops i s Fault.NoMessage (λ choice. NoMessage) (λ choice l k. message-row) f
+  row-line Fault.Backwards s n (at, r, e) = backwards-stops i s at r e
+  row-line Fault.TooMany s n (at, r, e) = many-stops i s at r e
+  row-line Fault.NoSend s (low, high) w = absurd (omega arith)
+  row-line Fault.LongReceive s (low, high) w = absurd (omega arith)
+  row-line Fault.NoTimes s (low, high) w = absurd (omega arith)
+  row-line Fault.NoRoom s (low, high) w = absurd (omega arith)
+  row-line Fault.OtherLevels s (low, high) w = absurd (omega arith)
+  row-line Fault.SharedProcessor s n w = absurd w
+
+  of-line : (fault : Fault) (s : Site) → OfALine fault → When i fault s → (reach (given i) ≡ stopped fault s) ⊎ (fault ≡ Fault.NoRoom)
+  of-line fault s n w = inl (reach-line i fault s (row-line fault s n w))
 
   pub row-stops : (fault : Fault) (s : Site) → When i fault s → (reach (given i) ≡ stopped fault s) ⊎ (fault ≡ Fault.NoRoom)
-  unfolding When
+  unfolding When numberOf
   row-stops Fault.BadChoice s (unheard, e) = inl (reach-choice i (unchosen (i .asked) unheard) ∙ ap (stopped Fault.BadChoice) (sym e))
   row-stops Fault.WrongLength s (choice, c, l, e) = inl (reach-length i choice c l ∙ ap (stopped Fault.WrongLength) (sym e))
   row-stops Fault.HighLatency s (choice, c, l, h, e) = inl (reach-latency i choice c l h ∙ ap (stopped Fault.HighLatency) (sym e))
   row-stops Fault.LongTrace s (choice, c, l, h, short, e) = inl (reach-long i choice c l h short ∙ ap (stopped Fault.LongTrace) (sym e))
-  row-stops Fault.Form s (inl n) = inl (reach-line i Fault.Form s (end-stops i s n))
-  row-stops Fault.Form s (inr f) = inl (in-field s Fault.Form (λ choice. BadForm) (λ choice l k. form-row) f)
-  row-stops Fault.Stamp s f = inl (in-field s Fault.Stamp (λ choice. BadStamp) (λ choice l k. stamp-row) f)
-  row-stops Fault.Unlisted s f = inl (in-field s Fault.Unlisted UnlistedStrict (λ choice l k. strict-row) f)
-  row-stops Fault.NotHandled s f = inl (in-field s Fault.NotHandled (λ choice. NotHandled) (λ choice l k. handled-row) f)
-  row-stops Fault.Place s f = inl (in-field s Fault.Place (λ choice. BadPlace) (λ choice l k. place-row) f)
-  row-stops Fault.NoMessage s f = inl (in-field s Fault.NoMessage (λ choice. NoMessage) (λ choice l k. message-row) f)
-  row-stops Fault.Backwards s (at, r, e) = inl (reach-line i Fault.Backwards s (backwards-stops i s at r e))
-  row-stops Fault.TooMany s (at, r, e) = inl (reach-line i Fault.TooMany s (many-stops i s at r e))
+  row-stops Fault.Form s w = of-line Fault.Form s (omega arith, omega arith) w
+  row-stops Fault.Stamp s w = of-line Fault.Stamp s (omega arith, omega arith) w
+  row-stops Fault.Unlisted s w = of-line Fault.Unlisted s (omega arith, omega arith) w
+  row-stops Fault.NotHandled s w = of-line Fault.NotHandled s (omega arith, omega arith) w
+  row-stops Fault.Place s w = of-line Fault.Place s (omega arith, omega arith) w
+  row-stops Fault.NoMessage s w = of-line Fault.NoMessage s (omega arith, omega arith) w
+  row-stops Fault.Backwards s w = of-line Fault.Backwards s (omega arith, omega arith) w
+  row-stops Fault.TooMany s w = of-line Fault.TooMany s (omega arith, omega arith) w
   row-stops Fault.OtherLevels s (o, e) = inl (reach-levels i Fault.OtherLevels s (levels-stop i s o e))
+  row-stops Fault.SharedProcessor s never = absurd never
   row-stops Fault.NoSend s (f, e) = inl (reach-receive i Fault.NoSend s (call-stops i s Fault.NoSend NoSend no-send-calls f e))
   row-stops Fault.LongReceive s (f, e) = inl (reach-receive i Fault.LongReceive s (call-stops i s Fault.LongReceive LongReceive long-receive-calls f e))
   row-stops Fault.NoTimes s (choice, m, none-sound, e) =

@@ -25,9 +25,9 @@ use Rattle.demands.specs.Before.{Good, ComesTo, AtLine}
 use Rattle.demands.specs.Levels.{OtherLevels, AtLevels}
 use Rattle.demands.specs.Rows.{BadForm, BadStamp, UnlistedStrict, NotHandled, BadPlace, NoMessage, Backwards, TooMany, NoSend, LongReceive, FirstReceive}
 use Rattle.demands.specs.Table.{InField, NoEnd, When}
-use Rattle.demands.proofs.Stops.{site-is, BadLine, BadLevels, BadReceive}
+use Rattle.demands.proofs.Stops.{site-is, OfALine, BadLine, BadLevels, BadReceive}
 use Rattle.demands.proofs.LineRows.{RowIn, form-row, stamp-row, strict-row, handled-row, place-row, message-row}
-use Rattle.demands.proofs.GoodLines.{StopsOn, no-end, in-line, backwards, too-many, Stopped, stops-there, ends-there, stopped-there}
+use Rattle.demands.proofs.GoodLines.{StopsOn, no-end, in-line, backwards, too-many, stops-number, Stopped, stops-there, ends-there, stopped-there}
 use Rattle.demands.proofs.InOrder.{originals-place}
 use Rattle.demands.proofs.LevelRows.{levels-row, levels-none}
 use Rattle.demands.proofs.ReceiveRows.{RowAt, send-row, length-row, call-row, nothing-called, called-not}
@@ -147,6 +147,10 @@ module _ (i : Inputs) where
   when-line fault s b =
       let (es, rest, good, bad) = rw (b .stops) at (stopped (b .choice)) in
       when-bad (b .choice) (b .begun) (s .line) es bad good
+
+  -- only 5 to 12 are given there
+  pub line-number : (fault : Fault) (s : Site) → BadLine i fault s → OfALine fault
+  line-number fault s b = let (es, rest, good, bad) = rw (b .stops) at (stopped (b .choice)) in stops-number _ _ _ bad
 
   all-good : (choice : Choice) → Read i choice → (end : ℕ) × (es : List Entry) × Good choice (most (given i)) (linesOf (i .trace)) end es done
   all-good choice r = rw (r .whole) at (stopped choice)

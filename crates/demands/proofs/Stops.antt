@@ -1,6 +1,7 @@
 -- Where the reading stops, where the levels do, and where the matching: rows 5 to 14 and 17 in the words of the definitions.
-use Prim.Native.Nat.{ℕ}
+use Prim.Native.Nat.{ℕ, _≤_}
 use mathlib.Core.Path.{_≡_}
+use Rattle.paper.specs.Numbers.{numberOf}
 use Rattle.paper.specs.Columns.{inLine}
 use Rattle.paper.specs.Levels.{levelsOf}
 use Rattle.paper.specs.Matching.{matchedOf}
@@ -14,6 +15,10 @@ use Rattle.demands.specs.Steps.{Begun, reading, Read, entries, Levelled}
 -- a site is its line and its column
 pub site-is : (s : Site) (n column : ℕ) → s .line ≡ n → s .column ≡ column → s ≡ inLine n column
 site-is s n column a b = rw (← a, ← b)
+
+-- 5 to 12, those of the lines
+abbrev pub OfALine : Fault → Type 0
+OfALine fault = (5 ≤ numberOf fault) × (numberOf fault ≤ 12)
 
 pub record BadLine (i : Inputs) (fault : Fault) (site : Site) : Type 0 where
   pub choice : Choice

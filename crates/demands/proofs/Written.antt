@@ -1,52 +1,23 @@
 -- The lines of a written trace: those of the trace, with the stamps of the listed ones replaced.
 use Prim.Native.Nat.{ℕ}
 use native.Mathlib.Omega.{arith}
-use mathlib.Core.Path.{_≡_, refl}
-use mathlib.Core.Bool.{Bool, true, false, cond}
-use mathlib.Core.List.{List, [], _∷_, _++_}
+use mathlib.Core.Path.{_≡_}
+use mathlib.Core.List.{List, [], _∷_}
 use lib.ListN.{length}
 use lib.IntN.{ℤ}
-use lib.Dec.{eqb}
-use borrow.Author.Tests.{ne-eqb, eqb-false}
 use Rattle.paper.specs.Forms.{timeShown}
 use Rattle.paper.specs.Line.{lineOf}
-use Rattle.paper.specs.Reading.{Lines, done, unended, ended, before, linesOf, State}
+use Rattle.paper.specs.Reading.{Lines, ended, linesOf, State}
 use Rattle.paper.specs.Written.{withStamp, writeLine, writtenFrom}
 use Rattle.paper.specs.declared.Choice.{Choice}
 use Rattle.paper.specs.declared.Entry.{Entry}
 use Rattle.paper.specs.declared.Line.the-variants.{Passed, Listed}
 use Rattle.paper.specs.declared.Record.{Record}
 use Rattle.forms.specs.Free.{Free}
+use Rattle.reading.proofs.Bytes.{Clean, line-ended}
 use Rattle.reading.proofs.Along.{Reads, ends, passes, lists}
 use Rattle.demands.specs.Demand2.{SameButStamps, end, passed-over, stamped}
 use Rattle.demands.proofs.Stamps.{no-space, no-end, restamped, restamped-free}
-
--- ---- lines have no LF in them
-
-abbrev pub Clean : Lines → Type 0
-Clean done = Unit
-Clean (unended l) = Free 10 l
-Clean (ended l x) = Free 10 l × Clean x
-
-clean-before : (b : ℕ) → (b ≡ 10 → ⊥) → (x : Lines) → Clean x → Clean (before b x)
-unfolding before Free
-clean-before b h done c = (h, tt)
-clean-before b h (unended l) c = (h, c)
-clean-before b h (ended l x) c = ((h, c .0), c .1)
-
-pub clean-lines : (s : List ℕ) → Clean (linesOf s)
-unfolding linesOf Free
-clean-lines [] = tt
-clean-lines (b ∷ s) = go (clean-lines s) (eqb b 10) refl
-  where
-    go : Clean (linesOf s) → (t : Bool) → eqb b 10 ≡ t → Clean (cond t (ended [] (linesOf s)) (before b (linesOf s)))
-    go c true e = (tt, c)
-    go c false e = clean-before b (eqb-false b 10 e) (linesOf s) c
-
-line-ended : (l s : List ℕ) → Free 10 l → linesOf (l ++ (10 ∷ s)) ≡ ended l (linesOf s)
-unfolding linesOf before Free
-line-ended [] s f = refl
-line-ended (b ∷ l) s f = rw (ne-eqb b 10 (f .0), line-ended l s (f .1))
 
 -- ---- one line
 

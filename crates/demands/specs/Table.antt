@@ -1,5 +1,5 @@
--- Document 01's table of numbers, and 17 of the first change request, row by row: "given exactly when", with the line and, as the fifth
--- one asks, the column. Each row has the checks before it passed.
+-- Document 01's table of numbers, with 17 of the first change request and 18 of the sixth, row by row: "given exactly when", with the line
+-- and, as the fifth one asks, the column. Each row has the checks before it passed.
 use Prim.Native.Nat.{ℕ, _<_}
 use mathlib.Core.Path.{_≡_}
 use mathlib.Core.Logic.{_⊎_}
@@ -73,3 +73,5 @@ When i Fault.NoTimes site = (choice : Choice) × Matched i choice × ((x : ℕ �
 When i Fault.NoRoom site =
     (choice : Choice) × (rounds : ℕ) × (times : List ℤ) × Matched i choice × (settle (waits i choice) ≡ settled rounds times)
     × (i .wanted ≡ true) × (length (i .room) < length (written i choice times)) × (site ≡ nowhere)
+-- "18 .. if both hold a listed record of one processor": a judging call has one trace
+When i Fault.SharedProcessor site = ⊥

@@ -1,10 +1,9 @@
--- What is said, by what was decided; and that what the system told leaves one thing to say.
+-- What is said, by what was decided.
 use Prim.Native.Nat.{ℕ}
 use native.Mathlib.Omega.{arith}
 use mathlib.Core.Path.{_≡_, refl, sym, _∙_}
 use mathlib.Core.Bool.{Bool, true, false}
 use mathlib.Core.List.{List}
-use mathlib.Core.Option.{Option}
 use lib.ListN.{length}
 use lib.Dec.{eqb}
 use Rattle.paper.specs.Columns.{nowhere}
@@ -16,10 +15,11 @@ use Rattle.table.specs.Table.{latenciesOf, Decoded}
 use Rattle.report.specs.declared.Said.{Said}
 use Rattle.report.specs.declared.Said.the-variants.{Answered, CannotRead}
 use Rattle.files.specs.File.{fileOf}
+use Rattle.files.specs.Told.{ByStored}
 use Rattle.decided.specs.declared.Readiness.{Readiness}
 use Rattle.decided.specs.declared.Readiness.the-variants.{Both, Ended}
 use Rattle.decided.specs.Decided.{readyOf, storing, endOf}
-use Rattle.filed.specs.Filed.{answerOf, onLatencies, onTable, onFiles, ByStored, ByFiles}
+use Rattle.filed.specs.Filed.{answerOf, onLatencies, onTable, onFiles}
 
 -- ---- the judgement
 
@@ -31,8 +31,6 @@ module _ (asked : Asked) (wanted : Bool) (trace : List ℕ) where
       → ByStored (onLatencies asked wanted trace latencies) said
   unfolding onLatencies
   concludes latencies stored a s e = record { stored = stored; says = e ∙ rw (s, a) }
-
-  -- ---- the files
 
   -- ---- the files
 
@@ -72,16 +70,3 @@ module _ (asked : Asked) (wanted : Bool) (trace : List ℕ) where
       pub judged : ready ≡ Both → ByStored (onLatencies asked wanted trace after) said
           → ByStored (onFiles asked wanted (fileOf read trace) (fileOf got table)) said
       judged e by = goes-on read got fits table test holds (sym tells ∙ e) by
-
--- ---- one answer
-
--- whoever is told the same says the same
-pub one-stored : {by : Bool → Said} {a b : Said} (x : ByStored by a) (y : ByStored by b) → x .stored ≡ y .stored → a ≡ b
-one-stored x y e = x .says ∙ rw e (sym (y .says))
-
-pub one-said : {by : Option (List ℕ) → Option (List ℕ) → Bool → Said} {a b : Said} (x : ByFiles by a) (y : ByFiles by b)
-    → x .trace ≡ y .trace
-    → x .table ≡ y .table
-    → x .rest .stored ≡ y .rest .stored
-    → a ≡ b
-one-said x y t l s = x .rest .says ∙ rw (t, l, s) (sym (y .rest .says))

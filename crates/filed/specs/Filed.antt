@@ -1,7 +1,6 @@
 -- Document 01, "What the base covers": what a program says of its files, in its order. The system tells three things, which are given
 -- here: either file as it could be read, and whether the file for the written trace could be written.
 use Prim.Native.Nat.{ℕ}
-use mathlib.Core.Path.{_≡_}
 use mathlib.Core.Bool.{Bool, cond}
 use mathlib.Core.List.{List}
 use mathlib.Core.Option.{Option, none, some}
@@ -50,16 +49,3 @@ unfoldable pub onFiles : (asked : Asked) (wanted : Bool) (trace table : Option (
 onFiles asked wanted none table stored = Said.CannotRead
 onFiles asked wanted (some trace) none stored = Said.CannotRead
 onFiles asked wanted (some trace) (some table) stored = onTable asked wanted trace table stored
-
--- ---- what the functions that ask the system leave: what is said, by what they were told
-
--- by whether the file for the written trace could be written
-pub record ByStored (by : Bool → Said) (said : Said) : Type 0 where
-  pub stored : Bool
-  pub says : said ≡ by stored
-
--- by what the files held, and that
-pub record ByFiles (by : Option (List ℕ) → Option (List ℕ) → Bool → Said) (said : Said) : Type 0 where
-  pub trace : Option (List ℕ)
-  pub table : Option (List ℕ)
-  pub rest : ByStored (by trace table) said

@@ -2,7 +2,8 @@
 ghost use mathlib.Core.Path.{_≡_};
 ghost use lib.ListN.{length};
 ghost use Rattle.files.specs.File.{fileOf};
-ghost use Rattle.filed.specs.Filed.{onLatencies, onFiles, ByStored};
+ghost use Rattle.files.specs.Told.{ByStored};
+ghost use Rattle.filed.specs.Filed.{onLatencies, onFiles};
 ghost use Rattle.filed.specs.Judged.{JudgedInto};
 use decided::Readiness;
 use paper::Answer;
@@ -34,14 +35,6 @@ fn judge_into(
     judge::judge(trace, latencies, asked, &mut times, wanted, room)
 }
 
-// Where there is nothing to store, the file is not touched.
-fn store_asked(storing: bool, out: &[u8], text: &[u8]) -> bool {
-    if !storing {
-        return true;
-    }
-    files::store(out, text)
-}
-
 fn concluded(asked: Asked, wanted: bool, trace: &[u8], latencies: &[u32], out: &[u8]) -> Said
     ensures { λ r. ⌜ ByStored (onLatencies asked wanted (now (trace .entry)) (now (latencies .entry))) r ⌝ }
 {
@@ -49,7 +42,7 @@ fn concluded(asked: Asked, wanted: bool, trace: &[u8], latencies: &[u32], out: &
     let answer = judge_into(asked, wanted, trace, latencies, &mut room);
     let n = answer.written as usize;
     let storing = decided::to_store(wanted, answer);
-    let stored = store_asked(storing, out, &room[..n]);
+    let stored = files::store_asked(storing, out, &room[..n]);
     decided::ended(storing, answer, stored)
 }
 

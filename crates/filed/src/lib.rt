@@ -6,9 +6,8 @@ mod print;
 pub use print::say;
 ghost use lib.ListN.{length};
 ghost use mathlib.Core.Path.{_≡_};
-ghost use Rattle.io.specs.Counts.{Counts};
-ghost use Rattle.filed.specs.Filed.{onFiles, ByFiles};
-use files::Loaded;
+ghost use Rattle.files.specs.Told.{ByFiles};
+ghost use Rattle.filed.specs.Filed.{onFiles};
 use paper::Asked;
 use report::Said;
 
@@ -25,16 +24,6 @@ fn table_buffer() -> [u8; 16385]
     [0; 16385]
 }
 
-// The second file is not waited for where the first can't be read.
-fn load_behind(read: bool, name: &[u8], buffer: &mut [u8]) -> Loaded
-    ensures { λ r. ⌜ Counts (r .len) (now (buffer .exit)) ⌝ }
-{
-    if !read {
-        return Loaded { ok: false, len: 0 };
-    }
-    files::load(name, buffer)
-}
-
 // The files by their names. Where the written trace is not wanted, the name `out` is not looked at.
 pub fn judge_files(asked: Asked, wanted: bool, trace: &[u8], table: &[u8], out: &[u8]) -> Said
     ensures { λ r. ⌜ ByFiles (onFiles asked wanted) r ⌝ }
@@ -43,7 +32,7 @@ pub fn judge_files(asked: Asked, wanted: bool, trace: &[u8], table: &[u8], out: 
     let mut held = table_buffer();
     let first = files::load(trace, &mut bytes);
     let read = first.ok;
-    let second = load_behind(read, table, &mut held);
+    let second = files::load_behind(read, table, &mut held);
     let n = first.len;
     let m = second.len;
     judged::judged(asked, wanted, read, &bytes[..n], second.ok, &held[..m], out)

@@ -9,4 +9,6 @@ mod write;
 
 pub use read::Loaded;
 pub use read::load;
+pub use read::load_behind;
 pub use write::store;
+pub use write::store_asked;

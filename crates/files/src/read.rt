@@ -21,6 +21,16 @@ pub fn load(name: &[u8], buffer: &mut [u8]) -> Loaded
     loaded
 }
 
+// The file of this name, which is not waited for where the one before it can't be read.
+pub fn load_behind(read: bool, name: &[u8], buffer: &mut [u8]) -> Loaded
+    ensures { λ r. ⌜ Counts (r .len) (now (buffer .exit)) ⌝ }
+{
+    if !read {
+        return unread();
+    }
+    load(name, buffer)
+}
+
 fn unread() -> Loaded
     ensures { λ r. ⌜ r .len ≡ 0 ⌝ }
 {

@@ -27,6 +27,14 @@ pub fn store(name: &[u8], text: &[u8]) -> bool {
     stored
 }
 
+// The same where it is asked for; else the file is not touched.
+pub fn store_asked(asked: bool, name: &[u8], text: &[u8]) -> bool {
+    if !asked {
+        return true;
+    }
+    store(name, text)
+}
+
 // Where nothing has the name, not even a link that leads nowhere.
 fn store_new(name: &[u8], error: i32, text: &[u8]) -> bool {
     if error != libc::ENOENT {

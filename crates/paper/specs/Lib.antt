@@ -1,5 +1,5 @@
 -- Document 01 as definitions, with the change requests, a file to each part. `Answer` is the whole, from a call's inputs to its outcome;
--- the others stand in the order in which that reads them.
+-- those before it stand in the order in which that reads them. `Merging` is the other call.
 pub mod Text
 pub mod Tests
 pub mod Numbers
@@ -13,3 +13,4 @@ pub mod Matching
 pub mod Clock
 pub mod Written
 pub mod Answer
+pub mod Merging

@@ -1,5 +1,5 @@
--- Document 01, "Numbers a caller gets back": the table's first column, with 14 as the fourth change request has it; and the number of
--- the first one.
+-- Document 01, "Numbers a caller gets back": the table's first column, with 14 as the fourth change request has it; and the numbers of
+-- the first and of the sixth.
 use Prim.Native.Nat.{ℕ}
 use Rattle.paper.specs.declared.Fault.{Fault}
 use Rattle.paper.specs.declared.Fault.the-variants as Fault
@@ -39,3 +39,5 @@ numberOf Fault.NoTimes = 15
 numberOf Fault.NoRoom = 16
 -- "a processor with listed records has no such mark, or its last one differs from the expected three"
 numberOf Fault.OtherLevels = 17
+-- "both hold a listed record of one processor"
+numberOf Fault.SharedProcessor = 18

@@ -38,7 +38,8 @@ pub enum Standing {
     Unlisted,
 }
 
-// Why something is refused: a case for each row of the paper's table of numbers, from 1 to 16, and 17 of the first change request.
+// Why something is refused: a case for each row of the paper's table of numbers, from 1 to 16, then 17 of the first change request and
+// 18 of the sixth.
 pub enum Fault {
     BadChoice,
     WrongLength,
@@ -57,6 +58,7 @@ pub enum Fault {
     NoTimes,
     NoRoom,
     OtherLevels,
+    SharedProcessor,
 }
 
 // The six fields that every record begins with.
@@ -156,5 +158,49 @@ pub struct Answer {
     pub matched: u64,
     pub unreceived: u64,
     pub rounds: u64,
+    pub written: u64,
+}
+
+// Which of two traces a merging means.
+pub enum Which {
+    Neither,
+    First,
+    Second,
+}
+
+// What was counted of a trace that is merged with another.
+pub struct Tally {
+    pub listed: u64,
+    pub passed: u64,
+}
+
+// What two traces come to that are read one after the other: neither is refused and no processor has a listed record in both, or the
+// refusal and which trace it means.
+pub enum Both {
+    Apart(Tally, Tally),
+    Unfit(Fault, Which, Site),
+}
+
+// What two traces come to as one: its lines and bytes, and what was counted of either.
+pub struct Joined {
+    pub lines: u64,
+    pub written: u64,
+    pub first: Tally,
+    pub second: Tally,
+}
+
+// What a merging comes to.
+pub enum Joint {
+    Refused(Fault, Which, Site),
+    Of(Joined),
+}
+
+// What the caller of a merging gets back, laid out as C has it.
+#[repr(C)]
+pub struct Merged {
+    pub number: u64,
+    pub which: u64,
+    pub line: u64,
+    pub column: u64,
     pub written: u64,
 }

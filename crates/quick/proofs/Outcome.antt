@@ -1,31 +1,22 @@
 -- Where the statements of the public calls leave an answer besides doubt, they leave one.
-use Prim.Native.Nat.{ℕ, _≤_}
+use Prim.Native.Nat.{ℕ}
 use mathlib.Core.Path.{_≡_, refl, sym, ap, _∙_}
-use mathlib.Core.List.{List, [], _∷_}
+use mathlib.Core.List.{List}
 use mathlib.Core.Bool.{Bool, true, false}
 use native.Mathlib.Omega.{arith}
 use lib.ListN.{length, drop}
 use lib.Seq.{length-take-le}
-use lib.Dec.{eqb}
-use Rattle.bytes.specs.Bytes.{indexOf, indexAfter}
+use Rattle.bytes.specs.Bytes.{indexOf}
 use Rattle.paper.specs.Line.{six}
 use Rattle.paper.specs.declared.Data.{Data}
 use Rattle.paper.specs.declared.Values.the-variants.{Good}
 use Rattle.paper.specs.declared.Head.{Head}
 use Rattle.reading.specs.Places.{lineAt, nextLine}
 use Rattle.reading.specs.Rests.{fieldsFrom, endFrom}
+use Rattle.reading.proofs.Fields.{index-within}
 use Rattle.quick.specs.declared.Begins.the-variants as Begins
 use Rattle.quick.specs.declared.Holds.the-variants as Holds
 use Rattle.quick.specs.Lines.{OpensAt, BeginsAt, DataAt, HoldsAt}
-
-index-within : (b : ℕ) (l : List ℕ) → indexOf b l ≤ length l
-unfolding indexOf indexAfter
-index-within b [] = omega arith
-index-within b (x ∷ l) = go (eqb x b) (index-within b l)
-  where
-    go : (t : Bool) → indexOf b l ≤ length l → indexAfter t (indexOf b l) ≤ length (x ∷ l)
-    go true h = omega arith
-    go false h = omega arith
 
 -- where a line starts is told by its bytes and by where the next one starts
 one-start : (s : List ℕ) (n m : ℕ) → lineAt s n ≡ lineAt s m → nextLine s n ≡ nextLine s m → n ≡ m

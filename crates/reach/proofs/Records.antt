@@ -17,10 +17,10 @@ use Rattle.paper.specs.declared.Stop.the-variants.{End, At}
 use Rattle.reading.specs.Starts.{startOf}
 use Rattle.reading.proofs.Starts.{start-within}
 use Rattle.store.specs.Layout.{capacity, entriesIn, startFrom}
-use Rattle.store.proofs.Laws.{capacity-stored, entries-stored, start-stored}
-use Rattle.trace.specs.Read.{ReadInto, answerOf}
+use Rattle.store.proofs.Laws.{start-stored}
+use Rattle.trace.specs.Read.{ReadInto}
 use Rattle.trace.specs.declared.Read.{Read}
-use Rattle.trace.proofs.Entries.{listed-many, listed-few, entries-small}
+use Rattle.trace.proofs.Into.{stop-is, listed-is, passed-is, few-listed, same-capacity, entries-are}
 use Rattle.solve.specs.Outcome.{solvedBy}
 use Rattle.solve.specs.declared.Solved.{Solved}
 use Rattle.solve.specs.declared.Solved.the-variants as Solved
@@ -35,38 +35,18 @@ module _ (choice : Choice) (trace store₀ : List ℕ) (r : Read) (store : List 
   abbrev whole : Reading
   whole = readOf choice (capacity store₀) trace
 
-  stop-is : r .stop ≡ whole .stop
-  unfolding answerOf
-  stop-is = ap (λ (x : Read). x .stop) (into .answer)
-
-  listed-is : length (whole .entries) ≡ r .listed
-  unfolding answerOf
-  listed-is = sym (listed-many choice (capacity store₀) trace) ∙ sym (ap (λ (x : Read). x .listed) (into .answer))
-
-  passed-is : whole .state .passed ≡ r .passed
-  unfolding answerOf
-  passed-is = sym (ap (λ (x : Read). x .passed) (into .answer))
-
-  few : r .listed ≤ capacity store₀
-  few = rw listed-is at (listed-few choice (capacity store₀) trace)
-
   few-stored : r .listed ≤ capacity store
-  few-stored = rw (into .holds, capacity-stored (startOf trace) (whole .entries) store₀ (listed-few choice (capacity store₀) trace)) few
+  few-stored = rw (same-capacity into) (few-listed into)
 
   -- slices made for as many records as the store are made for those that were read
   pub ready : {sends before latency : List ℕ} {times spare : List ℤ} → Sized (capacity store₀) sends before latency times spare
       → Sized (length sends) sends before latency times spare × ((r .listed ≤ length sends) × (r .listed ≤ capacity store))
-  ready z = (rw (z .all-sends) z, (rw (z .all-sends) few, few-stored))
+  ready z = (rw (z .all-sends) z, (rw (z .all-sends) (few-listed into), few-stored))
 
   module _ (short : length trace < 2 ^ 32) where
-    entries-are : entriesIn store (r .listed) ≡ whole .entries
-    entries-are =
-        rw (into .holds, ← listed-is)
-        (entries-stored (startOf trace) (whole .entries) store₀ (entries-small choice (capacity store₀) trace short))
-
     starts-are : (k : ℕ) → k < r .listed → startFrom store k ≡ startOf trace (entryAt (whole .entries) k .line)
     starts-are k l =
-        let inside : k < length (whole .entries) = rw listed-is l in
+        let inside : k < length (whole .entries) = rw (listed-is into) l in
         let low : startOf trace (entryAt (whole .entries) k .line) < 2 ^ 32 = omega (arith, start-within trace (entryAt (whole .entries) k .line)) in
         rw (into .holds) (start-stored (startOf trace) (whole .entries) store₀ k inside low)
 
@@ -76,23 +56,23 @@ module _ (choice : Choice) (trace store₀ : List ℕ) (r : Read) (store : List 
           → reaches trace (onMatched g choice whole (matchedOf (whole .entries))) (asReached (r .listed) (r .passed) x) store sends times
       unfolding reaches asReached solvedBy onMatched onSettled
       solved-reaches (Solved.Times matched unreceived rounds) by =
-          let s = rw entries-are at by in (
+          let s = rw (entries-are into short) at by in (
             record { choice = choice; reading = whole; rounds = rounds; times = take (r .listed) times },
             rw (s .matches, table, s .settles),
             record {
-              listed = listed-is;
-              passed = passed-is;
+              listed = listed-is into;
+              passed = passed-is into;
               matched = sym (s .many);
               unreceived = sym (s .left);
               rounds = refl;
-              entries = entries-are;
+              entries = entries-are into short;
               starts = starts-are;
               places = s .places;
               new = refl;
             },
           )
-      solved-reaches (Solved.Refused fault site) by = let s = rw entries-are at by in rw s
-      solved-reaches Solved.Impossible by = let s = rw entries-are at by in rw (s .0, table, s .1)
+      solved-reaches (Solved.Refused fault site) by = let s = rw (entries-are into short) at by in rw s
+      solved-reaches Solved.Impossible by = let s = rw (entries-are into short) at by in rw (s .0, table, s .1)
       solved-reaches Solved.Misfit by = by
 
     -- "then line by line, the first bad line deciding"; "After the lines are read, and before 13, refuse with 17"
@@ -102,7 +82,7 @@ module _ (choice : Choice) (trace store₀ : List ℕ) (r : Read) (store : List 
       unfolding onRead onLevels levelled
       onward places =
           let g = givenOf trace latencies asked places in
-          ap (onRead g choice whole) (sym stop-is) ∙ go (r .stop) ∙ ap (onLevels g choice whole) (sym (rw entries-are at levels))
+          ap (onRead g choice whole) (sym (stop-is into)) ∙ go (r .stop) ∙ ap (onLevels g choice whole) (sym (rw (entries-are into short) at levels))
         where
           go : (s : Stop) → let g = givenOf trace latencies asked places in onRead g choice whole s ≡ onLevels g choice whole (levelled asked (whole .entries) s)
           go (At fault site) = refl

@@ -21,7 +21,7 @@ use Rattle.paper.specs.declared.Record.{Record}
 use Rattle.paper.specs.declared.Stop.the-variants.{End}
 use Rattle.forms.proofs.Tests.{never}
 
-not-below : (a b : ℤ) → b ≤ℤ a → ltZ a b ≡ false
+pub not-below : (a b : ℤ) → b ≤ℤ a → ltZ a b ≡ false
 not-below a b h = go (ltZ a b) refl
   where
     go : (t : Bool) → ltZ a b ≡ t → t ≡ false
@@ -69,11 +69,11 @@ module _ (most : ℕ) (st : State) where
       go false false e = e
 
   -- and the other way round
-  passed-checked : checked most st Passed ≡ Passed
+  pub passed-checked : checked most st Passed ≡ Passed
   unfolding checked
   passed-checked = refl
 
-  listed-checked : (r : Record) → getD (st .last) (r .processor) (pos 0) ≤ℤ r .time → st .listed < most → checked most st (Listed r) ≡ Listed r
+  pub listed-checked : (r : Record) → getD (st .last) (r .processor) (pos 0) ≤ℤ r .time → st .listed < most → checked most st (Listed r) ≡ Listed r
   unfolding checked
   listed-checked r above room = rw (not-below (r .time) _ above, lt-leb most (st .listed) room)
 

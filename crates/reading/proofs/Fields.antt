@@ -1,5 +1,5 @@
 -- A field, the space that ends it, and what follows.
-use Prim.Native.Nat.{ℕ, suc, _+_, _<_}
+use Prim.Native.Nat.{ℕ, suc, _+_, _≤_, _<_}
 use mathlib.Core.Path.{_≡_, refl, sym, ap, _∙_}
 use mathlib.Core.List.{List, [], _∷_, _++_}
 use mathlib.Core.Bool.{Bool, true, false}
@@ -15,6 +15,16 @@ use Rattle.paper.specs.Line.{field, after, goesOn, rest}
 use Rattle.forms.specs.Free.{Free}
 
 -- ---- the first b
+
+-- it is within the bytes, or their end
+pub index-within : (b : ℕ) (l : List ℕ) → indexOf b l ≤ length l
+unfolding indexOf indexAfter
+index-within b [] = omega arith
+index-within b (x ∷ l) = go (eqb x b) (index-within b l)
+  where
+    go : (t : Bool) → indexOf b l ≤ length l → indexAfter t (indexOf b l) ≤ length (x ∷ l)
+    go true h = omega arith
+    go false h = omega arith
 
 -- after bytes that are free of it
 pub index-past : (b : ℕ) (f r : List ℕ) → Free b f → indexOf b (f ++ r) ≡ length f + indexOf b r

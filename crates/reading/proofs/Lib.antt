@@ -1,9 +1,14 @@
 pub mod Fields
 pub mod Stamp
 pub mod Lines
+pub mod Bytes
 pub mod Found
 pub mod Joined
 pub mod Along
+pub mod Counted
+pub mod Limit
+pub mod MixedLines
+pub mod Mixed
 pub mod Heads
 pub mod Tidy
 pub mod Data

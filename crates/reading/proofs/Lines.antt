@@ -45,6 +45,18 @@ no-line (b ∷ s) h e = go s (λ h. no-line s h) (eqb b 10) e
     go [] later false e = refl
     go (c ∷ s) later false e = ap (before b) (later (omega arith) (omega arith))
 
+-- no more lines than bytes
+pub few-lines : (s : List ℕ) → lineCount (linesOf s) ≤ length s
+unfolding linesOf before lineCount
+few-lines [] = omega arith
+few-lines (b ∷ s) = go (eqb b 10) (linesOf s) (few-lines s)
+  where
+    go : (t : Bool) (x : Lines) → lineCount x ≤ length s → lineCount (cond t (ended [] x) (before b x)) ≤ suc (length s)
+    go true x h = omega arith
+    go false done h = omega arith
+    go false (unended l) h = omega arith
+    go false (ended l x) h = omega arith
+
 -- ---- lines after lines
 
 before-followed : (b : ℕ) (x y : Lines) → AllEnded (before b x) → before b (followed x y) ≡ followed (before b x) y

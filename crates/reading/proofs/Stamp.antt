@@ -246,7 +246,7 @@ pub record Timed (l : List ℕ) (t : ℤ) : Type 0 where
   pub three : goesOn (after (after l)) ≡ true
   pub stamp : timeOf (field (after (after l))) ≡ Good t
 
-timed-head : (l : List ℕ) (h : Head) (fields : Option (List ℕ)) → headOf l ≡ six h fields → Timed l (h .time)
+pub timed-head : (l : List ℕ) (h : Head) (fields : Option (List ℕ)) → headOf l ≡ six h fields → Timed l (h .time)
 timed-head l h fields e =
     let q = has-six l h fields e in
     let g₀ = above 4 l (q .0) in

@@ -4,3 +4,4 @@ pub mod Tidy
 pub mod Starts
 pub mod Places
 pub mod Rests
+pub mod Mixed

@@ -1,4 +1,4 @@
--- The statements of `report`, of `say` and of `tell`: each leaves one outcome, and the code's ways out meet it.
+-- The statements of `report`, `say`, `tell` and `reply`: each leaves one outcome, and the code's ways out meet it.
 use Prim.Native.Nat.{ℕ}
 use mathlib.Core.Path.{_≡_, sym, _∙_}
 use mathlib.Core.List.{List}
@@ -8,9 +8,11 @@ use Rattle.report.specs.Put.{Put}
 use Rattle.report.specs.Report.{reportOf, acceptedShown, refusedShown, Reported}
 use Rattle.report.specs.Said.{saidShown, Spoken}
 use Rattle.report.specs.Told.{toldShown, ToldInto}
+use Rattle.report.specs.Replied.{repliedShown, RepliedInto}
 use Rattle.report.specs.declared.Said.{Said}
 use Rattle.report.specs.declared.Said.the-variants.{Answered}
 use Rattle.report.specs.declared.Told.{Told}
+use Rattle.report.specs.declared.Replied.{Replied}
 use Rattle.report.proofs.Puts.{counted}
 
 one-put : {room text : List ℕ} {at r q : ℕ} {a b : List ℕ} → Put room at text r a → Put room at text q b → (r ≡ q) × (a ≡ b)
@@ -26,6 +28,9 @@ one-spoken x y = one-put (x .put) (y .put)
 
 pub one-told : {told : Told} {room : List ℕ} {r q : ℕ} {a b : List ℕ} → ToldInto told room r a → ToldInto told room q b → (r ≡ q) × (a ≡ b)
 one-told x y = one-put (x .put) (y .put)
+
+pub one-replied : {replied : Replied} {room : List ℕ} {r q : ℕ} {a b : List ℕ} → RepliedInto replied room r a → RepliedInto replied room q b → (r ≡ q) × (a ≡ b)
+one-replied x y = one-put (x .put) (y .put)
 
 module _ {answer : Answer} {room : List ℕ} {end : ℕ} {after : List ℕ} where
   pub refused : (answer .number ≡ 0 → ⊥) → Put room 0 (refusedShown (answer .number) (answer .line) (answer .column)) end after → Reported answer room end after
@@ -52,3 +57,11 @@ module _ {told : Told} {room : List ℕ} {end : ℕ} {after : List ℕ} where
 
   pub in-common : {said : Said} → saidShown said ≡ toldShown told → Spoken said room end after → ToldInto told room end after
   in-common e p = record { put = rw e at (p .put); counts = p .counts }
+
+-- what `reply` puts there, likewise
+module _ {replied : Replied} {room : List ℕ} {end : ℕ} {after : List ℕ} where
+  pub replies : {word : List ℕ} → word ≡ repliedShown replied → Put room 0 word end after → RepliedInto replied room end after
+  replies e p = record { put = rw e at p; counts = counted p }
+
+  pub shared : {said : Said} → saidShown said ≡ repliedShown replied → Spoken said room end after → RepliedInto replied room end after
+  shared e p = record { put = rw e at (p .put); counts = p .counts }

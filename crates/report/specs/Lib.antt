@@ -3,3 +3,4 @@ pub mod Put
 pub mod Report
 pub mod Said
 pub mod Told
+pub mod Replied

@@ -37,10 +37,13 @@ acceptedShown a =
     ++ (numbered (bytesOf "unreceived ") (a .unreceived)
     ++ numbered (bytesOf "rounds ") (a .rounds)))))
 
+-- where a call is refused, to the end of the line
+abbrev pub placeShown : ℕ → ℕ → List ℕ
+placeShown line column = named (bytesOf " line ") line ++ numbered (bytesOf " column ") column
+
 -- "for a refusal one line", which the fifth change request makes "refused 5 line 812 column 31"
 unfoldable pub refusedShown : ℕ → ℕ → ℕ → List ℕ
-refusedShown number line column =
-    named (bytesOf "refused ") number ++ (named (bytesOf " line ") line ++ numbered (bytesOf " column ") column)
+refusedShown number line column = named (bytesOf "refused ") number ++ placeShown line column
 
 unfoldable pub reportOf : Answer → List ℕ
 reportOf a = cond (eqb (a .number) 0) (acceptedShown a) (refusedShown (a .number) (a .line) (a .column))

@@ -1,11 +1,15 @@
 // The report as bytes: document 01, "The program's whole report, header and all" and "The other reports are ..", and the lines that are
-// the program's own; and what the program says that makes a table of latencies.
+// the program's own; what the program says that makes a table of latencies; and what the one says that merges two traces.
+mod merged;
 mod put;
 
 ghost use Rattle.report.specs.Report.{Reported};
 ghost use Rattle.report.specs.Said.{Spoken};
 ghost use Rattle.report.specs.Told.{ToldInto};
+ghost use Rattle.report.specs.Replied.{RepliedInto};
 use paper::Answer;
+use paper::Joined;
+use paper::Merged;
 
 // What the program says, and all that it says: an answer's report, or a line of its own.
 pub enum Said {
@@ -22,6 +26,15 @@ pub enum Told {
     BadLine(u64),
     Uncovered(u64, u64),
     TooLong,
+    CannotRead,
+    CannotWrite,
+    TooMany,
+}
+
+// What the program says that merges two traces: the refusal, what was merged, or a line that it has in common with the others.
+pub enum Replied {
+    Refused(Merged),
+    Merged(Joined),
     CannotRead,
     CannotWrite,
     TooMany,
@@ -62,5 +75,18 @@ pub fn tell(told: Told, room: &mut [u8; 256]) -> usize
         Told::CannotRead => say(Said::CannotRead, room),
         Told::CannotWrite => say(Said::CannotWrite, room),
         Told::TooMany => say(Said::TooMany, room),
+    }
+}
+
+// What is replied at the room's start, and its length.
+pub fn reply(replied: Replied, room: &mut [u8; 256]) -> usize
+    ensures { λ r. ⌜ RepliedInto replied (now (room .entry)) r (now (room .exit)) ⌝ }
+{
+    match replied {
+        Replied::Refused(merged) => merged::put_unmerged(room, merged),
+        Replied::Merged(joined) => merged::put_merged(room, joined),
+        Replied::CannotRead => say(Said::CannotRead, room),
+        Replied::CannotWrite => say(Said::CannotWrite, room),
+        Replied::TooMany => say(Said::TooMany, room),
     }
 }

@@ -1,7 +1,7 @@
 // The report's lines, put into a room one behind the other.
 ghost use Prim.Native.Nat.{_+_, _≤_};
 ghost use lib.ListN.{length};
-ghost use Rattle.report.specs.Report.{shown, named, numbered, verdictShown, refusedShown, acceptedShown};
+ghost use Rattle.report.specs.Report.{shown, named, numbered, verdictShown, placeShown, refusedShown, acceptedShown};
 ghost use Rattle.report.specs.Told.{pairShown};
 ghost use Rattle.report.specs.Put.{Put, Short};
 use paper::Answer;
@@ -23,7 +23,7 @@ fn put_number(room: &mut [u8], at: usize, n: u64) -> usize
     put_word(room, at, &digits[..k])
 }
 
-fn put_named(room: &mut [u8], at: usize, word: &[u8], n: u64) -> usize
+pub(crate) fn put_named(room: &mut [u8], at: usize, word: &[u8], n: u64) -> usize
     requires { ⌜ at + length (now word) + 20 ≤ length (now room) ⌝ }
     ensures { λ r. ⌜ Short (length (now (word .entry)) + 20) (now (room .entry)) at (named (now (word .entry)) n) r (now (room .exit)) ⌝ }
 {
@@ -51,13 +51,21 @@ fn put_verdict(room: &mut [u8], verdict: u64) -> usize
     }
 }
 
+// Where a call is refused, to the end of the line.
+pub(crate) fn put_place(room: &mut [u8], at: usize, line: u64, column: u64) -> usize
+    requires { ⌜ at + 55 ≤ length (now room) ⌝ }
+    ensures { λ r. ⌜ Put (now (room .entry)) at (placeShown line column) r (now (room .exit)) ⌝ }
+{
+    let a = put_named(room, at, b" line ", line);
+    put_numbered(room, a, b" column ", column)
+}
+
 pub(crate) fn put_refused(room: &mut [u8], number: u64, line: u64, column: u64) -> usize
     requires { ⌜ 83 ≤ length (now room) ⌝ }
     ensures { λ r. ⌜ Put (now (room .entry)) 0 (refusedShown number line column) r (now (room .exit)) ⌝ }
 {
     let a = put_named(room, 0, b"refused ", number);
-    let b = put_named(room, a, b" line ", line);
-    put_numbered(room, b, b" column ", column)
+    put_place(room, a, line, column)
 }
 
 pub(crate) fn put_pair(room: &mut [u8], sender: u64, receiver: u64) -> usize

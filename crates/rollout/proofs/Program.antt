@@ -6,7 +6,8 @@ use mathlib.Core.List.{List}
 use mathlib.Core.Option.{none, some}
 use Rattle.report.specs.Said.{Spoken}
 use Rattle.report.specs.declared.Said.{Said}
-use Rattle.filed.specs.Filed.{onFiles, ByFiles}
+use Rattle.files.specs.Told.{ByFiles}
+use Rattle.filed.specs.Filed.{onFiles}
 use Rattle.named.specs.Parts.{cut}
 use Rattle.named.specs.declared.Name.{Name}
 use Rattle.named.specs.declared.Span.{Span}
@@ -35,8 +36,8 @@ module _ (line : List ℕ) {meant : Meant} {plan : Plan} (planned : Planned line
   says {wishes} e by s =
       rw (← planned .is, e)
       (record {
-        trace = by .trace;
-        table = by .table;
+        trace = by .first;
+        table = by .second;
         stored = by .rest .stored;
         put = rw (wanted (wishes .wanted), ← by .rest .says) (s .put);
         counts = s .counts;

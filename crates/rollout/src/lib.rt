@@ -3,7 +3,8 @@
 // the functions here ask the system for its arguments and print what is said.
 mod join;
 
-ghost use Rattle.filed.specs.Filed.{onFiles, ByFiles};
+ghost use Rattle.files.specs.Told.{ByFiles};
+ghost use Rattle.filed.specs.Filed.{onFiles};
 ghost use Rattle.named.specs.Words.{wordsOf};
 ghost use Rattle.named.specs.Parts.{Within};
 ghost use Rattle.flags.specs.Plan.{planOf};

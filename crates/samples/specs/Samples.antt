@@ -1,6 +1,7 @@
 -- Document 01, "Sample traces": those marked P, each a call from the trace's bytes with its whole outcome and the program's whole
 -- report of it; and in the same way what the first change request and its reading say of the tracing levels, the second of messages
--- that are posted and finish later, the fourth of receives that take fewer bytes than were sent, and the fifth of columns.
+-- that are posted and finish later, the fourth of receives that take fewer bytes than were sent, the fifth of columns, and the sixth of a
+-- merged trace.
 use Prim.Native.Nat.{ℕ, _+_, _*_}
 use Prim.Native.String.{String}
 use mathlib.Core.Path.{_≡_}
@@ -9,6 +10,7 @@ use mathlib.Core.List.{List, [], _∷_, _++_}
 use lib.ListN.{length, take, drop, set, replicate}
 use lib.IntN.{ℤ, pos, negsuc}
 use Rattle.paper.specs.Answer.{Inputs, Outcome, judge}
+use Rattle.paper.specs.Merging.{mergedBytes}
 use Rattle.paper.specs.Text.{bytesOf}
 use Rattle.paper.specs.declared.Asked.{Asked}
 use Rattle.report.specs.Report.{reportOf}
@@ -32,6 +34,13 @@ traceB =
     ∷ "-3 -21 0.000004 1 0 3 2 8 1 0\n"
     ∷ []
 
+-- trace A as its two nodes write it
+abbrev pub node0 : List String
+node0 = "-3 -21 0.000010 0 0 3 2 8 1 1\n" ∷ "-4 -21 0.000012 0 0 0\n" ∷ "-4 -51 0.000013 0 0 3 2 8 2 1\n" ∷ []
+
+abbrev pub node1 : List String
+node1 = "-4 -52 0.000009 1 0 3 2 8 1 0\n" ∷ "-3 -21 0.000011 1 0 3 2 8 2 0\n" ∷ []
+
 -- marks of processor 0 that tell the levels 1 1 1, and other ones
 abbrev goodMark : String
 goodMark = "-2 -904 0.000000 0 0 3 2 1 1 1\n"
@@ -40,10 +49,10 @@ abbrev badMark : String
 badMark = "-2 -904 0.000000 0 0 3 2 1 1 2\n"
 
 -- records that are no marks, of processors 0 and 1
-abbrev entry0 : String
+abbrev pub entry0 : String
 entry0 = "-3 5 0.000000 0 0 0\n"
 
-abbrev entry1 : String
+abbrev pub entry1 : String
 entry1 = "-3 5 0.000000 1 0 0\n"
 
 -- trace A with both messages posted and finished later, and with one end of each posted
@@ -97,7 +106,7 @@ otherPairing =
     ∷ "-4 -52 0.000004 1 0 3 2 8 5 0\n"
     ∷ []
 
-abbrev joined : List String → List ℕ
+abbrev pub joined : List String → List ℕ
 joined [] = []
 joined (l ∷ ls) = bytesOf l ++ joined ls
 
@@ -378,6 +387,12 @@ samples =
     ∷ badLine "-3 -21 0.000000 0 0 3 5 0.000000 0.000000 0.000000\n" 10 23 "refused 10 line 1 column 23\n"
     ∷ badLine "-3 -21 0.000000 0 0 3 2 -1 1 64\n" 10 25 "refused 10 line 1 column 25\n"
     ∷ badLine "-3 -21 0.000000 0 0 3 2 8 1 64\n" 10 29 "refused 10 line 1 column 29\n"
+    -- request 6: "All else .. is for the reading of the merged bytes": each record has the time that P1 has for it
+    ∷ record {
+      call = given (mergedBytes (joined node0) (joined node1)) (everywhere 5) 1;
+      comes = answer 2 2 3 (pos 15 ∷ pos 10 ∷ pos 15 ∷ pos 12 ∷ pos 20 ∷ []);
+      shows = report "verdict corrected\n" "listed 5\n" "matched 2\n" "rounds 3\n";
+    }
     ∷ []
 
 -- each comes to what it should, and is reported so

@@ -14,23 +14,24 @@ use Rattle.report.specs.declared.Said.the-variants.{Answered, CannotRead, TooMa
 use Rattle.arguments.specs.declared.Plan.{Plan}
 use Rattle.arguments.specs.declared.Plan.the-variants as Plan
 use Rattle.arguments.specs.Arguments.{planOf}
-use Rattle.filed.specs.Filed.{onFiles, ByFiles}
+use Rattle.files.specs.Told.{ByFiles}
+use Rattle.filed.specs.Filed.{onFiles}
 use Rattle.shell.specs.Program.{levelsOff, onPlan, saidOf}
 
 module _ (count : ℕ) (first : List ℕ) {plan : Plan} (planned : plan ≡ planOf count first) where
   pub refuses : {answer : Answer} → plan ≡ Plan.BadChoice → answer ≡ refusal Fault.BadChoice nowhere → ByFiles (saidOf count first) (Answered answer)
   unfolding saidOf onPlan
-  refuses e a = record { trace = none; table = none; rest = record { stored = true; says = rw (sym planned ∙ e, a) } }
+  refuses e a = record { first = none; second = none; rest = record { stored = true; says = rw (sym planned ∙ e, a) } }
 
   pub says-many : plan ≡ Plan.TooMany → ByFiles (saidOf count first) TooMany
   unfolding saidOf onPlan
-  says-many e = record { trace = none; table = none; rest = record { stored = true; says = rw (sym planned ∙ e) } }
+  says-many e = record { first = none; second = none; rest = record { stored = true; says = rw (sym planned ∙ e) } }
 
   pub says-unnamed : plan ≡ Plan.Unnamed → ByFiles (saidOf count first) CannotRead
   unfolding saidOf onPlan
-  says-unnamed e = record { trace = none; table = none; rest = record { stored = true; says = rw (sym planned ∙ e) } }
+  says-unnamed e = record { first = none; second = none; rest = record { stored = true; says = rw (sym planned ∙ e) } }
 
   pub judges : {choice : ℕ} {wanted : Bool} {asked : Asked} {said : Said} → plan ≡ Plan.Judge choice wanted → asked ≡ levelsOff choice
       → ByFiles (onFiles asked wanted) said → ByFiles (saidOf count first) said
   unfolding saidOf onPlan
-  judges e off by = record { trace = by .trace; table = by .table; rest = record { stored = by .rest .stored; says = by .rest .says ∙ rw (sym planned ∙ e, off) } }
+  judges e off by = record { first = by .first; second = by .second; rest = record { stored = by .rest .stored; says = by .rest .says ∙ rw (sym planned ∙ e, off) } }

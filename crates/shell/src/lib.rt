@@ -2,7 +2,7 @@
 // its arguments, of what its files hold and of whether OUT could be written (specs/Program.antt); the functions here ask the system for
 // its arguments and print what is said.
 ghost use mathlib.Core.Path.{_≡_};
-ghost use Rattle.filed.specs.Filed.{ByFiles};
+ghost use Rattle.files.specs.Told.{ByFiles};
 ghost use Rattle.shell.specs.Program.{levelsOff, saidOf};
 use arguments::Plan;
 use paper::Asked;

@@ -1,12 +1,12 @@
 -- Laws of a run of stores, `sets room at word`, in the orders in which the code makes them, and of the counted places.
 use Prim.Native.Nat.{ℕ, zero, suc, _+_, _-_, _/_, _%_, _≤_, _<_}
-use mathlib.Core.Path.{_≡_, refl, ap, _∙_}
-use mathlib.Core.List.{List, [], _∷_, _++_}
+use mathlib.Core.Path.{_≡_, refl, sym, ap, _∙_}
+use mathlib.Core.List.{List, [], _∷_, _++_, append-assoc, append-nil}
 use native.Mathlib.Numerals.{add-one}
 use native.Mathlib.Nat.{add-zero, add-suc, suc-add}
 use native.Mathlib.Omega.{arith}
-use lib.ListN.{length, set}
-use lib.Seq.{sets, set-comm}
+use lib.ListN.{length, set, take, drop, length-drop, drop-of-length-le}
+use lib.Seq.{sets, sets-eq, set-comm, take-all, take-length, drop-drop}
 use Rattle.paper.specs.Forms.{fixed, placesFrom, sizeShown}
 use Rattle.forms.proofs.Shown.{length-fixed}
 
@@ -14,6 +14,15 @@ use Rattle.forms.proofs.Shown.{length-fixed}
 pub sets-append : (v w room : List ℕ) (at : ℕ) → sets room at (v ++ w) ≡ sets (sets room at v) (at + length v) w
 sets-append [] w room at = rw add-zero
 sets-append (x ∷ v) w room at = rw (sets-append v w (set room at x) (suc at), add-suc, suc-add)
+
+-- a word copied into the part of the room from `at` on, which then comes back
+pub copied : (room word part : List ℕ) (at : ℕ) → at + length word ≤ length room
+    → part ≡ take (length word) word ++ drop (length word) (take (length room - at) (drop at room))
+    → take at room ++ (part ++ drop (length room - at) (drop at room)) ≡ sets room at word
+copied room word part at h e =
+    let whole : take (length room - at) (drop at room) ≡ drop at room = take-all (length room - at) (drop at room) (simp length-drop (omega arith)) in
+    let left : drop (length room - at) (drop at room) ≡ [] = drop-of-length-le (drop at room) {i = length room - at} (simp length-drop (omega arith)) in
+    rw (left, append-nil, e, whole, take-length, drop-drop, sets-eq word room at h) (sym (append-assoc (take at room) word (drop (at + length word) room)))
 
 -- a word's last byte may be stored first
 last-first : (v room : List ℕ) (at b : ℕ) → sets room at (v ++ (b ∷ [])) ≡ sets (set room (at + length v) b) at v

@@ -1,4 +1,4 @@
--- Any two answers of `stamp_of` that are allowed for the same trace, store and record are the same.
+-- Any two answers of `third_field`, and of `stamp_of`, that are allowed for the same trace, place or record are the same.
 use Prim.Native.Nat.{ℕ, _-_}
 use mathlib.Core.Path.{_≡_, sym, ap, _∙_}
 use mathlib.Core.List.{List}

@@ -39,9 +39,12 @@ module _ (s : List ℕ) (at space : ℕ) (found : space ≡ at + indexOf 32 (sli
 
 -- ---- two spaces
 
-pub stamp-at : {s : List ℕ} {store : List ℕ} {i start second third long : ℕ} {t : ℤ} → start ≡ startFrom store i
-    → Place s (after (drop start s)) second → Place s (after (drop second s)) third → t ≡ entryFrom store i .body .time → long ≡ shownLength t
+pub third-at : (start : ℕ) {s : List ℕ} {second third : ℕ} → Place s (after (drop start s)) second → Place s (after (drop second s)) third
+    → Place s (after (after (drop start s))) third
+third-at start p q = record { inside = q .inside; from = rw (← p .from) (q .from) }
+
+pub stamp-at : {s : List ℕ} {store : List ℕ} {i start third long : ℕ} {t : ℤ} → start ≡ startFrom store i
+    → Place s (after (after (drop start s))) third → t ≡ entryFrom store i .body .time → long ≡ shownLength t
     → StampOf s store i (record { at = third; long = long })
 unfolding stampOn stampLength
-stamp-at {s} is p q time e =
-    record { place = record { inside = q .inside; from = rw (← is, ← p .from) (q .from) }; long = e ∙ rw time }
+stamp-at {s} is p time e = record { place = rw (← is) p; long = e ∙ rw time }

@@ -24,13 +24,20 @@ fn after_space(s: &[u8], at: usize) -> usize
     space + 1
 }
 
+// Where the third field of the line begins that starts at a place.
+pub fn third_field(s: &[u8], start: usize) -> usize
+    ensures { λ r. ⌜ Place (now (s .entry)) (after (after (drop start (now (s .entry))))) r ⌝ }
+{
+    let second = after_space(s, start);
+    after_space(s, second)
+}
+
 // The timestamp of record i: the third field of its line.
 pub fn stamp_of(s: &[u8], store: &[u32], i: usize) -> Stamp
     ensures { λ r. ⌜ StampOf (now (s .entry)) (now (store .entry)) i r ⌝ }
 {
     let start = store::start_at(store, i);
-    let second = after_space(s, start);
-    let third = after_space(s, second);
+    let third = third_field(s, start);
     let time = store::time_at(store, i);
     Stamp {
         at: third,

@@ -11,7 +11,8 @@ use Rattle.text.specs.declared.Made.{Made}
 use Rattle.report.specs.declared.Told.{Told}
 use Rattle.report.specs.declared.Told.the-variants as Told
 use Rattle.files.specs.File.{fileOf}
-use Rattle.tables.specs.Program.{onMade, onText, onFile, toldOf, ByStored, ByFile}
+use Rattle.files.specs.Told.{ByStored}
+use Rattle.tables.specs.Program.{onMade, onText, onFile, toldOf, ByFile}
 
 -- ---- the text
 

@@ -1,7 +1,6 @@
 -- What the program `latencies TEXT TABLE` says, in its order. The system tells two things, which are given here: the text's file as it
 -- could be read, and whether the table's file could be written. A count of arguments has the program's own name in it.
 use Prim.Native.Nat.{ℕ}
-use mathlib.Core.Path.{_≡_}
 use mathlib.Core.Bool.{Bool, true, false, cond}
 use mathlib.Core.List.{List}
 use mathlib.Core.Option.{Option, none, some}
@@ -12,6 +11,7 @@ use Rattle.text.specs.declared.Made.{Made}
 use Rattle.text.specs.declared.Made.the-variants.{Whole, BadLine, Open}
 use Rattle.report.specs.declared.Told.{Told}
 use Rattle.report.specs.declared.Told.the-variants as Told
+use Rattle.files.specs.Told.{ByStored}
 
 -- only a whole table goes to its file
 unfoldable pub onMade : Made → (stored : Bool) → Told
@@ -34,12 +34,7 @@ toldOf count text stored = let told = onFile text stored in cond (ltb 3 count) T
 
 -- ---- what the functions that ask the system leave: what is said, by what they were told
 
--- by whether the table's file could be written
-pub record ByStored (by : Bool → Told) (told : Told) : Type 0 where
-  pub stored : Bool
-  pub says : told ≡ by stored
-
--- by what the text's file held, and that
+-- by what the text's file held, and by whether the table's could be written
 pub record ByFile (by : Option (List ℕ) → Bool → Told) (told : Told) : Type 0 where
   pub text : Option (List ℕ)
   pub rest : ByStored (by text) told

@@ -3,7 +3,8 @@ ghost use mathlib.Core.Path.{_≡_};
 ghost use lib.ListN.{length};
 ghost use Rattle.text.specs.Text.{madeOf};
 ghost use Rattle.files.specs.File.{fileOf};
-ghost use Rattle.tables.specs.Program.{onMade, onFile, ByStored};
+ghost use Rattle.files.specs.Told.{ByStored};
+ghost use Rattle.tables.specs.Program.{onMade, onFile};
 use report::Told;
 use text::Made;
 

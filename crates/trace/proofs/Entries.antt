@@ -7,10 +7,10 @@ use native.Mathlib.Omega.{arith}
 use lib.ListN.{length, getD}
 use lib.IntN.{pos}
 use lib.Signed.{ltZ}
-use lib.Dec.{leb, eqb}
+use lib.Dec.{leb}
 use borrow.Author.Tests.{leb-false}
 use Rattle.paper.specs.Line.{lineOf}
-use Rattle.paper.specs.Reading.{Lines, done, unended, ended, before, linesOf, State, Reading, start, checked, withListed, withPassed, withEntry, onLine, readFrom, readOf}
+use Rattle.paper.specs.Reading.{Lines, done, unended, ended, linesOf, State, Reading, start, checked, withListed, withPassed, withEntry, onLine, readFrom, readOf}
 use Rattle.paper.specs.declared.Choice.{Choice}
 use Rattle.paper.specs.declared.Fault.the-variants as Fault
 use Rattle.paper.specs.declared.Record.{Record}
@@ -19,6 +19,7 @@ use Rattle.paper.specs.declared.Line.{Line}
 use Rattle.paper.specs.declared.Line.the-variants.{Refused, Passed, Listed}
 use Rattle.reading.specs.Joined.{lineCount}
 use Rattle.reading.specs.Tidy.{TidyRecord}
+use Rattle.reading.proofs.Lines.{few-lines}
 use Rattle.reading.proofs.Tidy.{tidy-line}
 use Rattle.store.specs.Layout.{AllSmall}
 
@@ -94,17 +95,6 @@ small choice most =
     (λ n st k r h m. h (omega arith))
     (λ n st k r b t l h m. (record { line = omega arith; tidy = t }, h (omega arith)))
 
-lines-in : (s : List ℕ) → lineCount (linesOf s) ≤ length s
-unfolding linesOf before lineCount
-lines-in [] = omega arith
-lines-in (b ∷ s) = go (eqb b 10) (linesOf s) (lines-in s)
-  where
-    go : (t : Bool) (x : Lines) → lineCount x ≤ length s → lineCount (cond t (ended [] x) (before b x)) ≤ suc (length s)
-    go true x h = omega arith
-    go false done h = omega arith
-    go false (unended l) h = omega arith
-    go false (ended l x) h = omega arith
-
 pub entries-small : (choice : Choice) (most : ℕ) (s : List ℕ) → length s < 2 ^ 32 → AllSmall (readOf choice most s .entries)
 unfolding readOf
-entries-small choice most s h = small choice most (linesOf s) 1 start (omega (arith, lines-in s))
+entries-small choice most s h = small choice most (linesOf s) 1 start (omega (arith, few-lines s))

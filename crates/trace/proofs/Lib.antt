@@ -1,3 +1,4 @@
 pub mod Going
 pub mod Entries
+pub mod Into
 pub mod Outcome

@@ -1,11 +1,11 @@
 -- Words stored in the room, one behind the other.
 use Prim.Native.Nat.{ℕ, _+_, _-_, _≤_}
 use mathlib.Core.Path.{_≡_, sym, ap, _∙_}
-use mathlib.Core.List.{List, [], _++_, append-assoc, append-nil}
+use mathlib.Core.List.{List, _++_}
 use native.Mathlib.Omega.{arith}
 use borrow.Author.Tests.{le-leb}
-use lib.ListN.{length, take, drop, length-append, length-drop, drop-of-length-le}
-use lib.Seq.{take-all, take-length, drop-drop, sets, sets-eq, length-sets}
+use lib.ListN.{length, length-append}
+use lib.Seq.{sets, sets-eq, length-sets}
 use lib.IntN.{ℤ, natAbs}
 use Rattle.paper.specs.Forms.{timeShown}
 use Rattle.shown.specs.Writes.{putOf, timePut, TimePut}
@@ -14,15 +14,6 @@ use Rattle.shown.specs.declared.Put.the-variants.{At}
 use Rattle.shown.proofs.Stores.{sets-append}
 use Rattle.shown.proofs.Outcomes.{put-at}
 use Rattle.writing.specs.Inner.{Stored}
-
--- a word copied into the part of the room from `at` on, which then comes back
-pub copied : (room word part : List ℕ) (at : ℕ) → at + length word ≤ length room
-    → part ≡ take (length word) word ++ drop (length word) (take (length room - at) (drop at room))
-    → take at room ++ (part ++ drop (length room - at) (drop at room)) ≡ sets room at word
-copied room word part at h e =
-    let whole : take (length room - at) (drop at room) ≡ drop at room = take-all (length room - at) (drop at room) (simp length-drop (omega arith)) in
-    let left : drop (length room - at) (drop at room) ≡ [] = drop-of-length-le (drop at room) {i = length room - at} (simp length-drop (omega arith)) in
-    rw (left, append-nil, e, whole, take-length, drop-drop, sets-eq word room at h) (sym (append-assoc (take at room) word (drop (at + length word) room)))
 
 -- a time behind a word, where the code may have read it back from its bits
 module _ (room word : List ℕ) (at : ℕ) {mid last : List ℕ} {z u : ℤ} {r : Put} (is : u ≡ z) (size : natAbs z ≤ 999999999999999)

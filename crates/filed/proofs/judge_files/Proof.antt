@@ -37,7 +37,7 @@ judged-requires : tie.Need-judged-requires
 judged-requires c κs = search needs
 
 returns : tie.Need-returns
-returns c = record { trace = _; table = _; rest = c .judged .ensures }
+returns c = record { first = _; second = _; rest = c .judged .ensures }
 
 pub judge-files-spec : {M : Type 1} → statement M
 judge-files-spec =

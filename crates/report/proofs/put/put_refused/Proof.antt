@@ -12,17 +12,8 @@ slice-aggregate-put-named c = search needs
 put-named-requires : tie.Need-put-named-requires
 put-named-requires c κs = search needs
 
-slice-aggregate-put-named-2 : tie.Need-slice-aggregate-put-named-2
-slice-aggregate-put-named-2 c = search needs
-
-put-named-requires-2 : tie.Need-put-named-requires-2
-put-named-requires-2 c κs = search needs
-
-slice-aggregate-put-numbered : tie.Need-slice-aggregate-put-numbered
-slice-aggregate-put-numbered c = search needs
-
-put-numbered-requires : tie.Need-put-numbered-requires
-put-numbered-requires c κs = search needs
+put-place-requires : tie.Need-put-place-requires
+put-place-requires c κs = search needs
 
 same-length : tie.Need-same-length
 same-length c = search needs
@@ -31,20 +22,9 @@ returns : tie.Need-returns
 unfolding refusedShown bytesOf
 returns c =
     let c₂ = c .before .before in
-    let c₇ = c₂ .before .before .before .before .before in
-    let n = c₇ .before .before .before .before .before .put-named .ensures .put in
-    let l = c₇ .put-named2 .ensures .put in
-    then n (then l (c₂ .put-numbered .ensures .put))
+    then (c₂ .before .before .before .before .put-named .ensures .put) (c₂ .put-place .ensures)
 
 pub put-refused-spec : {M : Type 1} → statement M
 put-refused-spec =
     tie.close
-    (tie.spec
-    slice-aggregate-put-named
-    put-named-requires
-    slice-aggregate-put-named-2
-    put-named-requires-2
-    slice-aggregate-put-numbered
-    put-numbered-requires
-    same-length
-    returns)
+    (tie.spec slice-aggregate-put-named put-named-requires put-place-requires same-length returns)

@@ -1,6 +1,6 @@
 -- The part of the room from `at` on, copied into.
 use borrow.Author.Needs.{needs}
-use Rattle.writing.proofs.Puts.{copied}
+use Rattle.shown.proofs.Stores.{copied}
 use Rattle.writing.proofs.put.put.Statement.{statement}
 use Rattle.writing.proofs.put.put.Tie as tie
 

@@ -1,0 +1,3 @@
+-- The laws of what is said, and what they lean on in the merging.
+pub mod Lent
+pub mod Program
