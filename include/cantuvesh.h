@@ -3,9 +3,9 @@
  * ./library makes it for x86-64, as lib/libcantuvesh.a and lib/libcantuvesh.so beside
  * include/cantuvesh.h, and prints the line that compiles a program with it. It needs no set-up, keeps
  * nothing between calls, allocates nothing and may be called from several threads at once, each with
- * times and room of its own. A call takes some 160,000 bytes of the calling thread's stack (155,128 as
+ * times and room of its own. To judge takes some 160,000 bytes of the calling thread's stack (155,064 as
  * reference/stack measured it: at 2,048 records, the written trace wanted, and with the registers that the
- * loader keeps where it binds a function at its first use).
+ * loader keeps where it binds a function at its first use), to merge some 90,000 (83,048).
  */
 #ifndef CANTUVESH_H
 #define CANTUVESH_H
@@ -18,9 +18,9 @@
 extern "C" {
 #endif
 
-#define CANTUVESH_VERSION "0.5.0"
+#define CANTUVESH_VERSION "0.6.0"
 
-/* The sizes of a call. */
+/* The sizes of a call. Each of two traces that are merged has the limits of a trace by itself. */
 #define CANTUVESH_TRACE_LIMIT 65536     /* the most bytes that a trace may have */
 #define CANTUVESH_PROCESSORS 64         /* processors are 0 to 63 */
 #define CANTUVESH_LATENCIES 4096        /* the exact number of lent latencies */
@@ -28,7 +28,7 @@ extern "C" {
 #define CANTUVESH_TIMES 2048            /* the exact number of lent times; the most listed records */
 #define CANTUVESH_ROOM 81920            /* so many bytes of room are enough for every written trace */
 
-/* What `asked.choice` may be. */
+/* What `asked.choice`, and the choice of a merging, may be. */
 #define CANTUVESH_STRICT 1  /* an unlisted line is refused */
 #define CANTUVESH_LENIENT 2 /* an unlisted line is passed over */
 
@@ -98,7 +98,8 @@ struct cantuvesh_answer {
 
 /* Refusals, the first that holds in this order: 1 to 4; then 5 to 12 line by line, the first bad
  * line deciding; then 17, the smallest processor deciding, at the line of its last listed record; then
- * the first receive in file order that calls for 13 or 14; then 15; then 16.
+ * the first receive in file order that calls for 13 or 14; then 15; then 16. Of a merging: 1; then 4 to
+ * 12 of the first trace; then 4 to 12 of the second; then 18; then 16. No others are asked there.
  *
  *    1  the choice is neither 1 (strict) nor 2 (lenient), or the levels' switch is neither 0 (off)
  *       nor 1 (on)
@@ -117,9 +118,10 @@ struct cantuvesh_answer {
  *   14  the receive's length is above its send's
  *   15  no times exist: a ring of waits has latencies that add up to more than 0, or a time would be
  *       beyond the format's end
- *   16  the written trace was wanted and is longer than the room
+ *   16  the trace to be written, corrected or merged, is longer than the room
  *   17  a processor with listed records has no tracing-level mark that counts, or its last one is not
  *       what is expected
+ *   18  both of the traces to be merged hold a listed record of the same processor
  */
 
 /* Judges one trace.
@@ -158,6 +160,45 @@ struct cantuvesh_answer cantuvesh_judge(
     struct cantuvesh_asked asked,
     int64_t *times, size_t times_len,
     bool wanted,
+    uint8_t *room, size_t room_len);
+
+/* The answer of a merging. A refusal has its number and, for 4 to 12, its trace, with the line and the
+ * column that it has there, and 0 in all the rest; two traces that are merged have `written` alone. From
+ * 0.6.0 on.
+ */
+struct cantuvesh_merged {
+    uint64_t number;  /* 0 merged, else the refusal above */
+    uint64_t which;   /* the trace that 4 to 12 mean, 1 or 2; 0 for all else */
+    uint64_t line;    /* the refused line of that trace, counted from 1; 0 where no line is meant */
+    uint64_t column;  /* the column of the field that decides, counted from 1; 0 where none is meant */
+    uint64_t written; /* bytes of the merged trace: as many as both have together */
+};
+
+/* Merges two traces, as of nodes that write one file each.
+ *
+ * At each step, of the two lines at the heads, the one with the smaller timestamp goes next, the first
+ * trace's where equal; lines that are passed over go by their timestamps, too. So every line appears
+ * once, as it is, and each trace's own order stays; the merged trace is sorted by time only as far as
+ * both were. It may pass the limits of a trace, of bytes or of listed records: that is for who reads it
+ * (4, 12), and so are messages, clocks and levels.
+ *
+ * first, first_len; second, second_len
+ *     The bytes of the two traces, as cantuvesh_judge takes one. Each has to be good by itself (4 to 12),
+ *     and no processor may have listed records in both (18); lines that are passed over may be of any.
+ * choice
+ *     CANTUVESH_STRICT or CANTUVESH_LENIENT, for both.
+ * room, room_len
+ *     Where the merged trace goes, at its start: room[0] to room[written - 1]. first_len + second_len
+ *     bytes are always enough, and no fewer are. All later places are left as they were, and every
+ *     place if the traces are refused.
+ *
+ * As above, any lengths may be lent, no pointer may be NULL, and bytes may stand anywhere. The room may
+ * overlap neither trace; the two may overlap, or be the same.
+ */
+struct cantuvesh_merged cantuvesh_merge(
+    const uint8_t *first, size_t first_len,
+    const uint8_t *second, size_t second_len,
+    uint32_t choice,
     uint8_t *room, size_t room_len);
 
 #ifdef __cplusplus

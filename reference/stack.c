@@ -1,6 +1,6 @@
 /* How much stack one call uses: a thread whose stack was painted beforehand makes the call, and the deepest byte that lost its paint
- * tells. The difference to a thread that does nothing is printed, in bytes, for the longest chain, written too. reference/stack
- * compiles and runs it.
+ * tells. The difference to a thread that does nothing is printed, in bytes: of judging the longest chain, written too, and of merging
+ * two traces of 2,048 records. reference/stack compiles and runs it.
  */
 #include "cantuvesh.h"
 
@@ -20,10 +20,22 @@ static uint8_t room[CANTUVESH_ROOM];
 static const struct cantuvesh_asked asked = {.choice = CANTUVESH_STRICT, .levels = CANTUVESH_LEVELS_OFF};
 static struct cantuvesh_answer answer;
 
-static void *call(void *unused)
+static char nodes[2][CANTUVESH_TRACE_LIMIT];
+static size_t node_len[2];
+static uint8_t merged_room[2 * CANTUVESH_TRACE_LIMIT];
+static struct cantuvesh_merged merged;
+
+static void *judge(void *unused)
 {
     answer = cantuvesh_judge((const uint8_t *)trace, trace_len, latencies, CANTUVESH_LATENCIES, asked,
                              times, CANTUVESH_TIMES, true, room, sizeof room);
+    return unused;
+}
+
+static void *merge(void *unused)
+{
+    merged = cantuvesh_merge((const uint8_t *)nodes[0], node_len[0], (const uint8_t *)nodes[1], node_len[1],
+                             CANTUVESH_STRICT, merged_room, sizeof merged_room);
     return unused;
 }
 
@@ -60,15 +72,28 @@ static void make_chain(void)
     }
 }
 
+/* The records of one processor on either node, their times by turns. */
+static void make_nodes(void)
+{
+    for (int place = 0; place < 2 * CANTUVESH_TIMES; place++) {
+        int node = place % 2;
+        node_len[node] += sprintf(nodes[node] + node_len[node], "0 0 0.%06d %d 0 0\n", place, node);
+    }
+}
+
 int main(void)
 {
     for (size_t pair = 0; pair < CANTUVESH_LATENCIES; pair++)
         latencies[pair] = 5;
     make_chain();
+    make_nodes();
     size_t idle = depth_of(nothing);
-    size_t busy = depth_of(call);
+    size_t judging = depth_of(judge);
+    size_t merging = depth_of(merge);
     printf("number %" PRIu64 ", listed %" PRIu64 ", rounds %" PRIu64 ", written %" PRIu64 "\n",
            answer.number, answer.listed, answer.rounds, answer.written);
-    printf("%zu bytes of stack\n", busy - idle);
+    printf("%zu bytes of stack\n", judging - idle);
+    printf("merging: number %" PRIu64 ", written %" PRIu64 "\n", merged.number, merged.written);
+    printf("%zu bytes of stack\n", merging - idle);
     return 0;
 }

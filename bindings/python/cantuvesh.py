@@ -13,10 +13,10 @@ not gives the least later times at which all agree. The library behind it is pro
 ('corrected', 2, [10, 12, 15, 15, 20])
 
 Messages may be blocking, or posted and finished later: a send is the entry of -21 or -27, a receive the exit of -51, -52, -58,
--60 or -61.
+-60 or -61. Nodes that write a file each have them merged before, by `merge`.
 
 The library is looked for in the folder that CANTUVESH_LIBRARY names, else in the checkout's target/library. A call keeps nothing
-and may be made from several threads at once; it takes some 160,000 bytes of the calling thread's stack.
+and may be made from several threads at once; to judge takes some 160,000 bytes of the calling thread's stack, to merge some 90,000.
 """
 
 from __future__ import annotations
@@ -29,7 +29,7 @@ from dataclasses import dataclass
 from pathlib import Path
 from typing import Literal, Tuple, Union
 
-VERSION = "0.5.0"  # of the library: another one's call may be another
+VERSION = "0.6.0"  # of the library: another one's call may be another
 TRACE_LIMIT = 65_536  # the most bytes that a trace may have
 PROCESSORS = 64  # processors are 0 to 63
 LATENCIES = PROCESSORS * PROCESSORS  # the exact number of latencies in a table
@@ -61,8 +61,9 @@ _SENTENCES = {
     13: "the receive has no matching send",
     14: "the receive's length is above its send's",
     15: "no times exist: a ring of waits has latencies that add up to more than 0, or a time would be beyond the format's end",
-    16: "the written trace was wanted and is longer than the room",
+    16: "the trace to be written, corrected or merged, is longer than the room",
     17: "a processor with listed records has no tracing-level mark that counts, or its last one is not what is expected",
+    18: "both of the traces to be merged hold a listed record of the same processor",
 }
 
 
@@ -91,24 +92,25 @@ class Accepted:
 
 
 class Refused(Exception):
-    """The trace, or the whole call, is refused: `number` and `sentence` say why, `line` and `column` say where.
+    """The trace, or the whole call, is refused: `number` and `sentence` say why, `which`, `line` and `column` say where.
 
-    line    counted from 1; 0 where the whole call is meant
+    which   1 or 2, the trace that is meant where two were to be merged; 0 for both or the whole call, and where one was judged
+    line    counted from 1 in its own trace; 0 where no line is meant
     column  where the field that decides begins in the line, counted from 1 in bytes; one past the line's last byte where a field
             or the LF is missing. The refusals 5 to 10 have it, and it is 0 for the others
     """
 
-    def __init__(self, number: int, line: int, column: int) -> None:
-        super().__init__(number, line, column)
+    def __init__(self, number: int, line: int, column: int, which: int = 0) -> None:
+        super().__init__(number, line, column, which)
         self.number = number
         self.line = line
         self.column = column
+        self.which = which
         self.sentence = _SENTENCES[number]
 
     def __str__(self) -> str:
-        where = f" line {self.line}" if self.line else ""
-        if self.column:
-            where += f" column {self.column}"
+        places = {"trace": self.which, "line": self.line, "column": self.column}
+        where = "".join(f" {name} {place}" for name, place in places.items() if place)
         return f"refused {self.number}{where}: {self.sentence}"
 
 
@@ -158,8 +160,7 @@ def judge(
     17 2
     """
     asked = _asked(choice, levels)
-    # Other threads run during the call: what it reads is copied, so that they cannot change it.
-    text = bytes(_lent(trace, "the trace", {"B", "b", "c"}, "contiguous bytes"))
+    text = _text(trace, "the trace")
     entries = _lent(table, "the table", {"I"}, "contiguous unsigned numbers of 32 bits, as cantuvesh.table makes them")
     latencies = (ctypes.c_uint32 * (entries.nbytes // 4)).from_buffer_copy(entries)
     times = (ctypes.c_int64 * TIMES)()
@@ -182,15 +183,49 @@ def judge(
     )
 
 
-def _asked(choice: Choice, levels: Levels) -> _Asked:
+def merge(first: bytes | bytearray | memoryview, second: bytes | bytearray | memoryview, choice: Choice) -> bytes:
+    """Merges two traces, as of nodes that write one file each, and raises Refused where one of them, or both, are refused.
+
+    first, second  bytes, or whatever lends contiguous bytes; any may be given: what is no good trace is refused
+    choice         "strict" or "lenient", for both
+
+    At each step, of the two lines at the heads, the one with the smaller timestamp goes next, the first trace's where equal;
+    lines that are passed over go by their timestamps, too. So every line appears once and each trace's own order stays. Each
+    trace has limits of its own; a merged one that passes them is refused by `judge`.
+
+    >>> first = b"-3 7 0.000001 0 0 0\\n-4 7 0.000005 0 0 0\\n"
+    >>> merge(first, b"-3 7 0.000002 1 0 0\\n", "strict").splitlines()
+    [b'-3 7 0.000001 0 0 0', b'-3 7 0.000002 1 0 0', b'-4 7 0.000005 0 0 0']
+    >>> try:
+    ...     merge(first, b"-3 7 0.000002 1 0 one\\n", "strict")
+    ... except Refused as refused:
+    ...     print(refused.number, refused.which, refused.line, refused.column)
+    5 2 1 19
+    """
+    number = _numbered(choice)
+    ours, theirs = _text(first, "the first trace"), _text(second, "the second trace")
+    room = (ctypes.c_char * (len(ours) + len(theirs)))()
+
+    merged = _merge(ours, len(ours), theirs, len(theirs), number, room, len(room))
+    if merged.number != 0:
+        raise Refused(merged.number, merged.line, merged.column, merged.which)
+    return room[: merged.written]
+
+
+def _numbered(choice: Choice) -> int:
     if choice not in _CHOICES:
         raise ValueError(f'the choice should be "strict" or "lenient", and is {choice!r}')
+    return _CHOICES[choice]
+
+
+def _asked(choice: Choice, levels: Levels) -> _Asked:
+    number = _numbered(choice)
     if isinstance(levels, str) and levels == "off":
-        return _Asked(choice=_CHOICES[choice], levels=_OFF)
+        return _Asked(choice=number, levels=_OFF)
     if not (isinstance(levels, tuple) and len(levels) == 3 and all(_is_level(level) for level in levels)):
         raise ValueError(f'the levels should be "off" or three whole numbers of 64 bits, and are {levels!r}')
     picl, user, trace = levels
-    return _Asked(choice=_CHOICES[choice], levels=_ON, picl=picl, user=user, trace=trace)
+    return _Asked(choice=number, levels=_ON, picl=picl, user=user, trace=trace)
 
 
 def _is_level(value: object) -> bool:
@@ -205,6 +240,11 @@ def _latency(value: int, what: str) -> int:
     if not _is_whole(value, LATENCY_LIMIT):
         raise ValueError(f"{what} should be a whole number of microseconds from 0 to 1,000,000, and is {value!r}")
     return value
+
+
+def _text(trace: object, what: str) -> bytes:
+    """A trace's bytes, copied: other threads run during a call, and cannot change what it reads."""
+    return bytes(_lent(trace, what, {"B", "b", "c"}, "contiguous bytes"))
 
 
 def _lent(buffer: object, what: str, formats: set[str], kind: str) -> memoryview:
@@ -236,6 +276,10 @@ class _Answer(ctypes.Structure):
     ]
 
 
+class _Merged(ctypes.Structure):
+    _fields_ = [(name, ctypes.c_uint64) for name in ("number", "which", "line", "column", "written")]
+
+
 def _loaded() -> ctypes.CDLL:
     beside = Path(__file__).resolve().parent / "../../target/library"
     folder = Path(os.environ.get("CANTUVESH_LIBRARY") or beside).resolve()
@@ -245,7 +289,9 @@ def _loaded() -> ctypes.CDLL:
         raise ImportError(f"{error}: run ./library, which makes it for x86-64, or name its folder in CANTUVESH_LIBRARY") from error
 
 
-_judge = _loaded().cantuvesh_judge
+_library = _loaded()
+
+_judge = _library.cantuvesh_judge
 _judge.restype = _Answer
 _judge.argtypes = [
     *(ctypes.c_char_p, ctypes.c_size_t),  # the trace
@@ -253,5 +299,14 @@ _judge.argtypes = [
     _Asked,
     *(ctypes.POINTER(ctypes.c_int64), ctypes.c_size_t),  # the times
     ctypes.c_bool,
+    *(ctypes.POINTER(ctypes.c_char), ctypes.c_size_t),  # the room
+]
+
+_merge = _library.cantuvesh_merge
+_merge.restype = _Merged
+_merge.argtypes = [
+    *(ctypes.c_char_p, ctypes.c_size_t),  # the first trace
+    *(ctypes.c_char_p, ctypes.c_size_t),  # the second
+    ctypes.c_uint32,
     *(ctypes.POINTER(ctypes.c_char), ctypes.c_size_t),  # the room
 ]

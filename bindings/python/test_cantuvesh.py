@@ -17,7 +17,7 @@ from dataclasses import FrozenInstanceError
 from pathlib import Path
 
 import cantuvesh
-from cantuvesh import Refused, judge, table
+from cantuvesh import Refused, judge, merge, table
 
 SAMPLES = Path(__file__).resolve().parents[2] / "samples"
 TRACE_A = (SAMPLES / "a.picl").read_bytes()
@@ -139,7 +139,10 @@ class Refusing(unittest.TestCase):
 
     def test_a_refusal_comes_whole_from_another_process(self):
         copy = pickle.loads(pickle.dumps(Refused(7, 25, 1)))
-        self.assertEqual((copy.number, copy.line, copy.column, str(copy)), (7, 25, 1, str(Refused(7, 25, 1))))
+        self.assertEqual((copy.number, copy.which, copy.line, copy.column), (7, 0, 25, 1))
+        self.assertEqual(str(copy), str(Refused(7, 25, 1)))
+        copy = pickle.loads(pickle.dumps(Refused(7, 25, 1, 2)))
+        self.assertEqual((copy.number, copy.which, copy.line, copy.column), (7, 2, 25, 1))
 
     def test_a_choice_has_to_be_named(self):
         with self.assertRaises(TypeError):
@@ -195,12 +198,107 @@ class Levels(unittest.TestCase):
         self.assertEqual((places, ctypes.sizeof(asked)), ([0, 4, 8, 16, 24], 32))
 
 
+class Merging(unittest.TestCase):
+    """Trace A as two nodes would have written it, and what is refused of either trace or of both."""
+
+    ZERO = b"".join(line for line in TRACE_A.splitlines(True) if line.split()[3] == b"0")
+    ONE = b"".join(line for line in TRACE_A.splitlines(True) if line.split()[3] == b"1")
+    GOOD = b"0 0 0.000000 0 0 0\n"
+
+    def test_trace_a_of_two_nodes(self):
+        merged = merge(self.ZERO, self.ONE, "strict")
+        self.assertEqual([line.split()[2][-2:] for line in merged.splitlines()], [b"09", b"10", b"11", b"12", b"13"])
+        self.assertEqual(sorted(merged.splitlines()), sorted(TRACE_A.splitlines()))
+        self.assertEqual(merge(self.ONE, self.ZERO, "strict"), merged)
+        self.assertEqual(judge(merged, FIVES, "strict", "off").verdict, "corrected")
+
+    def test_which_line_goes_next(self):
+        """The first trace's where equal; times as numbers; the heads alone, also of what is passed over."""
+        zero, one = b"0 0 2.000000 0 0 0\n", b"0 0 2.000000 1 0 0\n"
+        self.assertEqual((merge(zero, one, "strict"), merge(one, zero, "strict")), (zero + one, one + zero))
+        ten = b"0 0 10.000000 1 0 0\n"
+        self.assertEqual(merge(ten, zero, "strict"), zero + ten)
+        late = b"-5 0 11.000000 0 0 0\n"
+        self.assertEqual(merge(late + zero, ten, "lenient"), ten + late + zero)
+
+    def test_empty_traces(self):
+        self.assertEqual((merge(b"", b"", "strict"), merge(TRACE_A, b"", "strict"), merge(b"", TRACE_A, "strict")), (b"", TRACE_A, TRACE_A))
+
+    def test_limits_of_their_own(self):
+        zero, one = (b"0 0 0.000000 %d 0 0\n" % processor * 2_048 for processor in (0, 1))
+        self.assertEqual(merge(zero, one, "strict"), zero + one)
+        full = [b"-5 0 0.000000 0 0 1 ".ljust(65_535, fill) + b"\n" for fill in (b"x", b"y")]
+        self.assertEqual(merge(*full, "lenient"), b"".join(full))
+
+    def refused(self, expected, first, second, choice="strict"):
+        with self.assertRaises(Refused) as raised:
+            merge(first, second, choice)
+        refused = raised.exception
+        self.assertEqual((refused.number, refused.which, refused.line, refused.column), expected)
+        return refused
+
+    def test_every_number_of_either_trace(self):
+        """Not 1 and not 16: no other choice gets as far as the call, and there is always room."""
+        for bad, number, line, column in (
+            (b"\n" * 65_537, 4, 0, 0),
+            (b"0 0 0.000000 1 0 0\nx\n", 5, 2, 2),
+            (b"0 0 -0.000000 1 0 0\n", 6, 1, 5),
+            (b"-5 0 0.000000 1 0 0\n", 7, 1, 1),
+            (b"0 -62 0.000000 1 0 0\n", 8, 1, 3),
+            (b"0 0 0.000000 64 0 0\n", 9, 1, 14),
+            (b"-3 -21 0.000000 1 0 0\n", 10, 1, 21),
+            (b"0 0 0.000001 1 0 0\n0 0 0.000000 1 0 0\n", 11, 2, 0),
+            (b"0 0 0.000000 1 0 0\n" * 2_049, 12, 2_049, 0),
+        ):
+            with self.subTest(number):
+                self.refused((number, 1, line, column), bad, self.GOOD)
+                self.refused((number, 2, line, column), self.GOOD, bad)
+                self.refused((number, 1, line, column), bad, b"x\n")
+
+    def test_a_processor_in_both(self):
+        self.refused((18, 0, 0, 0), TRACE_A, self.GOOD)
+        passed = b"-5 0 0.000000 0 0 0\n"
+        self.assertEqual(merge(self.GOOD, passed, "lenient"), self.GOOD + passed)
+        self.assertEqual(merge(passed, passed, "lenient"), passed + passed)
+
+    def test_what_a_refusal_says(self):
+        of_a_line = self.refused((6, 2, 1, 5), b"", b"0 0 -0.000000 0 0 0\n")
+        self.assertEqual(str(of_a_line), "refused 6 trace 2 line 1 column 5: the form of the timestamp is bad")
+        of_a_trace = self.refused((4, 1, 0, 0), b"\n" * 65_537, b"")
+        self.assertEqual(str(of_a_trace), "refused 4 trace 1: the trace is longer than 65,536 bytes")
+        of_both = self.refused((18, 0, 0, 0), self.GOOD, self.GOOD)
+        self.assertEqual(str(of_both), "refused 18: both of the traces to be merged hold a listed record of the same processor")
+
+    def test_a_choice_has_to_be_named(self):
+        with self.assertRaises(TypeError):
+            merge(self.ZERO, self.ONE)
+        for other in ("", "Strict", 1, 2, None):
+            with self.subTest(other), self.assertRaisesRegex(ValueError, '"strict" or "lenient"'):
+                merge(self.ZERO, self.ONE, other)
+
+    def test_whatever_lends_contiguous_bytes(self):
+        merged = merge(self.ZERO, self.ONE, "strict")
+        self.assertEqual(merge(bytearray(self.ZERO), memoryview(self.ONE), "strict"), merged)
+        for other in (self.ZERO.decode(), None, memoryview(self.ZERO)[::2]):
+            with self.subTest(other):
+                with self.assertRaisesRegex(TypeError, "the first trace should be contiguous bytes"):
+                    merge(other, self.ONE, "strict")
+                with self.assertRaisesRegex(TypeError, "the second trace should be contiguous bytes"):
+                    merge(self.ONE, other, "strict")
+
+
 class Answers(unittest.TestCase):
     def test_an_answer_has_the_places_of_c(self):
         answer = cantuvesh._Answer
         names = ("number", "line", "column", "verdict", "listed", "passed", "matched", "unreceived", "rounds", "written")
         self.assertEqual([getattr(answer, name).offset for name in names], list(range(0, 80, 8)))
         self.assertEqual(ctypes.sizeof(answer), 80)
+
+    def test_so_has_that_of_a_merging(self):
+        merged = cantuvesh._Merged
+        names = ("number", "which", "line", "column", "written")
+        self.assertEqual([getattr(merged, name).offset for name in names], list(range(0, 40, 8)))
+        self.assertEqual(ctypes.sizeof(merged), 40)
 
 
 class Buffers(unittest.TestCase):

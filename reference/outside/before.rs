@@ -2,7 +2,7 @@
 //! linked beside the new one.
 
 use super::archive::judge_by;
-use cantuvesh::raw::Library;
+use cantuvesh::raw::LINKED;
 use reference::{Answer, Asked, Inputs};
 
 unsafe extern "C" {
@@ -22,5 +22,5 @@ pub fn tells(answer: Answer) -> Answer {
 /// Judges a trace by the older library.
 pub fn judge(call: Inputs) -> Answer {
     // SAFETY: this is the function of an older library with the same C call.
-    judge_by(unsafe { Library::at(cantuvesh_judge_before) }, call)
+    judge_by(unsafe { LINKED.judging_by(cantuvesh_judge_before) }, call)
 }

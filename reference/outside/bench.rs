@@ -4,12 +4,16 @@
 //! measured in the same turns.
 
 mod calls;
+mod merger;
+mod merges;
 mod programs;
+mod sample;
 mod turns;
 
 use calls::{Calls, Judge, judges};
+use merges::{Merge, Merges, mergers};
 use reference::Answer;
-use reference::generator::workload::{self, Workload};
+use reference::generator::workload::{self, Nodes, Workload};
 use std::convert::Infallible;
 use std::env;
 use std::path::Path;
@@ -38,6 +42,9 @@ fn measure_all() -> Result<(), String> {
     for workload in workload::all() {
         rows.push(measure(&workload, time)?);
     }
+    for nodes in workload::merged() {
+        rows.push(measure_merging(&nodes, time)?);
+    }
     if let Some(program) = arguments.get(1) {
         let before = arguments.get(2).map(Path::new);
         let measured = programs::measure(Path::new(program), before, time);
@@ -63,4 +70,18 @@ fn described(workload: &Workload, answer: &Answer) -> String {
         0 => format!("{bytes} bytes, listed {listed}, passed {passed}, matched {matched}, rounds {rounds}"),
         _ => format!("{bytes} bytes, refused {number} line {line} column {column}"),
     }
+}
+
+fn measure_merging(nodes: &Nodes, time: Duration) -> Result<Row, String> {
+    let mut merges = Merges::of(nodes)?;
+    let sample = |&merge: &Merge| -> Result<f64, Infallible> { Ok(merges.sample(merge)) };
+    let Ok(row) = Row::measured(nodes.name, &mergers(), time, sample);
+    row.print();
+    println!(
+        "    {} and {} bytes, written {}",
+        nodes.first.len(),
+        nodes.second.len(),
+        merges.expected.written
+    );
+    Ok(row)
 }

@@ -13,13 +13,11 @@ mod before;
 #[path = "without_column.rs"]
 mod without_column;
 
+use crate::sample;
 use crate::turns::Sides;
 use reference::generator::workload::Workload;
 use reference::{Answer, Inputs, MAX_BYTES, MAX_RECORDS, judge};
-use std::time::{Duration, Instant};
-
-/// A sample is so many calls that it takes about this long.
-const SAMPLE: Duration = Duration::from_micros(500);
+use std::hint::black_box;
 
 /// Who judges, and what of an answer it tells.
 #[derive(Clone, Copy)]
@@ -77,9 +75,9 @@ impl<'a> Calls<'a> {
                 ));
             }
         }
-        let start = Instant::now();
-        calls.call(sides.reference);
-        calls.many = (SAMPLE.as_nanos() / start.elapsed().as_nanos().max(1)).max(1) as u32;
+        calls.many = sample::many_like(|| {
+            black_box(calls.call(sides.reference));
+        });
         Ok(calls)
     }
 
@@ -91,10 +89,8 @@ impl<'a> Calls<'a> {
 
     /// The microseconds of one call, by a sample of calls.
     pub fn sample(&mut self, judge: Judge) -> f64 {
-        let start = Instant::now();
-        for _ in 0..self.many {
-            std::hint::black_box(self.call(judge));
-        }
-        start.elapsed().as_secs_f64() * 1e6 / f64::from(self.many)
+        sample::microseconds(self.many, || {
+            black_box(self.call(judge));
+        })
     }
 }

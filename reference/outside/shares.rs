@@ -5,6 +5,7 @@
 //! trace takes longer than the same with a bad last line.
 
 mod calls;
+mod sample;
 #[allow(dead_code, reason = "the rows are for bench")]
 mod turns;
 

@@ -1,11 +1,11 @@
-//! Document 01 and requests 1 to 5 of document 02 in plain Rust: one trace in; verdict, counts,
-//! corrected times and the corrected trace out.
+//! Document 01 and requests 1 to 6 of document 02 in plain Rust: one trace in; verdict, counts,
+//! corrected times and the corrected trace out. Or two traces in, and one out.
 //!
 //! Written from the papers alone, to be held against the proved library (`outside/compare.rs`) and
 //! measured beside it (`outside/bench.rs`). The modules follow the papers' order: [`form`],
 //! [`field`] and [`line`] are "One line, one record" and requests 2 and 5, [`trace`] reads line after line,
 //! [`levels`] is request 1, [`message`] and [`clock`] are "Matching and the clock condition" and request 4,
-//! [`report`] is what the program prints. Request 3 asks for speed alone.
+//! [`report`] is what the program prints, and [`merge`] is request 6. Request 3 asks for speed alone.
 
 #![forbid(unsafe_code)]
 
@@ -14,8 +14,11 @@ pub mod deciding;
 pub mod field;
 pub mod form;
 pub mod generator;
+mod lent;
 pub mod levels;
 pub mod line;
+pub mod merge;
+pub mod merge_trial;
 pub mod message;
 pub mod refusal;
 pub mod report;
@@ -85,11 +88,7 @@ impl Asked {
     /// The choice and, where they are on, the expected levels; none if either number is refusal 1.
     fn heard(self) -> Option<(Choice, Option<Levels>)> {
         let Asked { choice, levels, picl, user, trace } = self;
-        let choice = match choice {
-            1 => Choice::Strict,
-            2 => Choice::Lenient,
-            _ => return None,
-        };
+        let choice = Choice::numbered(choice)?;
         match levels {
             0 => Some((choice, None)),
             1 => Some((choice, Some(Levels { picl, user, trace }))),
@@ -103,6 +102,17 @@ impl Asked {
 pub enum Choice {
     Strict,
     Lenient,
+}
+
+impl Choice {
+    /// By its number; none is refusal 1.
+    pub fn numbered(number: u32) -> Option<Choice> {
+        match number {
+            1 => Some(Choice::Strict),
+            2 => Some(Choice::Lenient),
+            _ => None,
+        }
+    }
 }
 
 /// What one call is given: a trace, a table and what is asked, and what it may write to.
@@ -141,9 +151,6 @@ fn accept(call: Inputs) -> Result<Answer, Refusal> {
     }
     if latencies.iter().any(|&latency| latency > MAX_LATENCY) {
         return Err(Refusal::of_all(refusal::LATENCY));
-    }
-    if trace.len() > MAX_BYTES {
-        return Err(Refusal::of_all(refusal::BYTES));
     }
 
     let trace::Listing { records, passed } = trace::read(trace, choice)?;

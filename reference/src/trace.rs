@@ -4,8 +4,8 @@ use crate::field;
 use crate::form::write_time;
 use crate::levels::Levels;
 use crate::line::{self, Line, Role};
-use crate::refusal::{ORDER, RECORDS, Refusal};
-use crate::{Choice, MAX_RECORDS, PROCESSORS};
+use crate::refusal::{BYTES, ORDER, RECORDS, Refusal};
+use crate::{Choice, MAX_BYTES, MAX_RECORDS, PROCESSORS};
 use std::ops::Range;
 
 /// A listed record in its trace.
@@ -29,8 +29,16 @@ pub struct Listing {
     pub passed: u64,
 }
 
-/// Reads line by line; the first bad line decides.
+/// Reads a trace: the refusals 4 to 12.
 pub fn read(trace: &[u8], choice: Choice) -> Result<Listing, Refusal> {
+    if trace.len() > MAX_BYTES {
+        return Err(Refusal::of_all(BYTES));
+    }
+    lines(trace, choice)
+}
+
+/// Reads line by line, however many there are; the first bad line decides.
+pub fn lines(trace: &[u8], choice: Choice) -> Result<Listing, Refusal> {
     let mut records = Vec::new();
     let mut passed = 0;
     let mut last: [Option<i64>; PROCESSORS] = [None; PROCESSORS];

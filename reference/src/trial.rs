@@ -4,39 +4,11 @@
 use crate::deciding::{self, deciding};
 use crate::generator::Case;
 use crate::generator::stroke::{self, LONGEST_START};
+use crate::lent::{Lent, pattern};
 use crate::line::Role;
 use crate::{Answer, Choice, Inputs, form, message, trace};
 use std::collections::BTreeMap;
 use std::fmt;
-
-/// Places before and after each lent slice, which nobody may touch.
-const MARGIN: usize = 16;
-
-/// A buffer with a lent slice somewhere inside.
-#[derive(Default)]
-struct Lent<T> {
-    buffer: Vec<T>,
-    start: usize,
-    length: usize,
-}
-
-impl<T: Copy + PartialEq> Lent<T> {
-    /// Fills the whole buffer with a pattern and lends so many places of it.
-    fn prepare(&mut self, offset: usize, length: usize, pattern: impl FnMut(usize) -> T) {
-        self.start = MARGIN + offset % MARGIN;
-        self.length = length;
-        self.buffer.clear();
-        self.buffer.extend((0..self.start + length + MARGIN).map(pattern));
-    }
-
-    fn slice(&mut self) -> &mut [T] {
-        // An empty slice need not stand in any buffer.
-        if self.length == 0 && self.start.is_multiple_of(2) {
-            return &mut [];
-        }
-        &mut self.buffer[self.start..self.start + self.length]
-    }
-}
 
 /// Everything that is lent in one call.
 #[derive(Default)]
@@ -50,11 +22,9 @@ pub struct Call {
 impl Call {
     /// Runs a judge on a case, with slices that stand where the case says.
     pub fn run(&mut self, case: &Case, judge: impl FnOnce(Inputs) -> Answer) -> Answer {
-        let mix = |place: usize| (case.seed ^ place as u64).wrapping_mul(0x9e37_79b9_7f4a_7c15);
-        self.trace.prepare(case.offset, case.trace.len(), |place| mix(place) as u8);
-        self.trace.slice().copy_from_slice(&case.trace);
-        self.latencies.prepare(case.offset / 3, case.latencies.len(), |place| mix(place) as u32);
-        self.latencies.slice().copy_from_slice(&case.latencies);
+        let mix = |place| pattern(case.seed, place);
+        self.trace.prepare_with(case.offset, &case.trace, |place| mix(place) as u8);
+        self.latencies.prepare_with(case.offset / 3, &case.latencies, |place| mix(place) as u32);
         self.times.prepare(case.offset / 5, case.times, |place| mix(place) as i64);
         self.room.prepare(case.offset / 2, case.room, |place| (mix(place) >> 56) as u8);
         judge(Inputs {
@@ -74,28 +44,11 @@ pub fn difference(one: (&Answer, &Call), other: (&Answer, &Call)) -> Option<Stri
         return Some(format!("answers differ:\n  {:?}\n  {:?}", one.0, other.0));
     }
     let (one, other) = (one.1, other.1);
-    place_of_difference("times", &one.times, &other.times)
-        .or_else(|| place_of_difference("room", &one.room, &other.room))
-        .or_else(|| place_of_difference("trace", &one.trace, &other.trace))
-        .or_else(|| place_of_difference("latencies", &one.latencies, &other.latencies))
-}
-
-fn place_of_difference<T: PartialEq + fmt::Debug>(
-    name: &str,
-    one: &Lent<T>,
-    other: &Lent<T>,
-) -> Option<String> {
-    if one.buffer == other.buffer {
-        return None;
-    }
-    let place = one.buffer.iter().zip(&other.buffer).position(|(one, other)| one != other)?;
-    Some(format!(
-        "{name} differ at place {} of {}:\n  {:?}\n  {:?}",
-        place as i64 - one.start as i64,
-        one.length,
-        one.buffer[place],
-        other.buffer[place]
-    ))
+    one.times
+        .difference("times", &other.times)
+        .or_else(|| one.room.difference("room", &other.room))
+        .or_else(|| one.trace.difference("trace", &other.trace))
+        .or_else(|| one.latencies.difference("latencies", &other.latencies))
 }
 
 /// The messages of an accepted trace, each by the events of its send and of its receive.

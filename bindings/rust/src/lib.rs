@@ -23,8 +23,10 @@
 //! Messages may be blocking, or posted and finished later: a send is the entry of -21 or -27, a receive
 //! the exit of -51, -52, -58, -60 or -61.
 //!
-//! The call keeps nothing, allocates nothing, and may be made from several threads at once. It takes
-//! some 160,000 bytes of the calling thread's stack.
+//! Nodes that write a file each have them [merged](merge) before.
+//!
+//! A call keeps nothing, allocates nothing, and may be made from several threads at once. To judge takes
+//! some 160,000 bytes of the calling thread's stack, to merge some 90,000.
 
 #![deny(missing_docs)]
 #![deny(unsafe_op_in_unsafe_fn)]
@@ -36,7 +38,7 @@ pub mod raw;
 mod refusal;
 
 pub use latencies::Latencies;
-pub use refusal::{Refusal, Refused};
+pub use refusal::{Refusal, Refused, Which};
 
 use std::fmt;
 
@@ -183,7 +185,7 @@ pub fn judge(
     let wanted = room.is_some();
     let answer = raw::LINKED.judge(trace, latencies, asked.into(), times, wanted, room.unwrap_or_default());
     if answer.number != 0 {
-        return Err(Refused::of(answer));
+        return Err(Refused::judging(answer));
     }
     Ok(Accepted {
         verdict: match answer.verdict {
@@ -199,4 +201,42 @@ pub fn judge(
         rounds: answer.rounds as usize,
         written: answer.written as usize,
     })
+}
+
+/// Merges two traces, as of nodes that write one file each, and gives the length of the merged one: it is
+/// `room[..length]`, and as long as both together.
+///
+/// At each step, of the two lines at the heads, the one with the smaller timestamp goes next, the first
+/// trace's where equal; lines that are passed over go by their timestamps, too. So every line appears once
+/// and each trace's own order stays. The merged trace is sorted by time only as far as both were.
+///
+/// Each trace has to be good by itself, with limits of its own, and no processor may have listed records in
+/// both. The merged one may pass the limits of a trace: then [`judge`] refuses it.
+///
+/// All later places of the room are left as they were, and every place if the traces are refused.
+///
+/// ```
+/// use cantuvesh::{Choice, Refusal, Which, merge};
+///
+/// let first = b"-3 7 0.000001 0 0 0\n-4 7 0.000005 0 0 0\n";
+/// let second = b"-3 7 0.000002 1 0 0\n";
+/// let mut room = vec![0; first.len() + second.len()];
+/// let length = merge(first, second, Choice::Strict, &mut room)?;
+/// assert_eq!(&room[..length], b"-3 7 0.000001 0 0 0\n-3 7 0.000002 1 0 0\n-4 7 0.000005 0 0 0\n");
+///
+/// let refused = merge(first, b"x\n", Choice::Strict, &mut room).unwrap_err();
+/// assert_eq!((refused.refusal, refused.which), (Refusal::Form, Some(Which::Second)));
+/// # Ok::<(), cantuvesh::Refused>(())
+/// ```
+///
+/// # Errors
+///
+/// A trace is refused for one of the reasons 4 to 12 that [`Refusal`] has, and [`Refused`] says which one, at
+/// which line and column; or the whole call is, for a processor in both (18) or too little room (16).
+pub fn merge(first: &[u8], second: &[u8], choice: Choice, room: &mut [u8]) -> Result<usize, Refused> {
+    let merged = raw::LINKED.merge(first, second, choice as u32, room);
+    match merged.number {
+        0 => Ok(merged.written as usize),
+        _ => Err(Refused::merging(merged)),
+    }
 }

@@ -1,5 +1,5 @@
-//! The C call as it is: the structs and the function of `include/cantuvesh.h`, for any numbers and any
-//! lengths. This is the one place where the boundary is declared in Rust.
+//! The C calls as they are: the structs and the two functions of `include/cantuvesh.h`, for any numbers and
+//! any lengths. This is the one place where the boundary is declared in Rust.
 
 use std::mem;
 
@@ -46,6 +46,22 @@ pub struct Answer {
     pub written: u64,
 }
 
+/// `struct cantuvesh_merged`: a refusal has all but `written`, two traces that are merged have that alone.
+#[repr(C)]
+#[derive(Clone, Copy, Debug, PartialEq, Eq)]
+pub struct Merged {
+    /// 0 merged, else the refusal.
+    pub number: u64,
+    /// The trace that a refusal from 4 to 12 means, 1 or 2; 0 for all else.
+    pub which: u64,
+    /// The refused line of that trace, counted from 1; 0 where no line is meant.
+    pub line: u64,
+    /// The column of the field that decides a refusal from 5 to 10, counted from 1 in bytes; 0 for all else.
+    pub column: u64,
+    /// Bytes of the merged trace.
+    pub written: u64,
+}
+
 type Judge = unsafe extern "C" fn(
     trace: *const u8,
     trace_len: usize,
@@ -59,30 +75,72 @@ type Judge = unsafe extern "C" fn(
     room_len: usize,
 ) -> Answer;
 
-// Only where it is: its parameters stand in `Judge`.
+type Merge = unsafe extern "C" fn(
+    first: *const u8,
+    first_len: usize,
+    second: *const u8,
+    second_len: usize,
+    choice: u32,
+    room: *mut u8,
+    room_len: usize,
+) -> Merged;
+
+// Only where they are: their parameters stand in `Judge` and `Merge`.
 unsafe extern "C" {
     fn cantuvesh_judge();
+    fn cantuvesh_merge();
 }
 
 /// The library that this package is linked with.
-// SAFETY: this is the function of `include/cantuvesh.h`.
-pub const LINKED: Library = unsafe { Library::at(cantuvesh_judge) };
+// SAFETY: these are the functions of `include/cantuvesh.h`.
+pub const LINKED: Library =
+    unsafe { Library { judge: judge_at(cantuvesh_judge), merge: merge_at(cantuvesh_merge) } };
 
-/// A library, by its one function.
+/// # Safety
+///
+/// The function is declared in C as `cantuvesh_judge` is in `include/cantuvesh.h`.
+const unsafe fn judge_at(function: unsafe extern "C" fn()) -> Judge {
+    // SAFETY: the caller knows that the function has these parameters.
+    unsafe { mem::transmute::<unsafe extern "C" fn(), Judge>(function) }
+}
+
+/// # Safety
+///
+/// The function is declared in C as `cantuvesh_merge` is in `include/cantuvesh.h`.
+const unsafe fn merge_at(function: unsafe extern "C" fn()) -> Merge {
+    // SAFETY: the caller knows that the function has these parameters.
+    unsafe { mem::transmute::<unsafe extern "C" fn(), Merge>(function) }
+}
+
+/// A library, by its functions.
 #[derive(Clone, Copy, Debug)]
-pub struct Library(Judge);
+pub struct Library {
+    judge: Judge,
+    merge: Merge,
+}
 
 impl Library {
-    /// The library with this function, for one that is linked under another name. To declare it by
-    /// `unsafe extern "C" { fn name(); }` is enough: its parameters are known here.
+    /// The same, but it judges by this function: that of a library which is linked under another name. To
+    /// declare it by `unsafe extern "C" { fn name(); }` is enough: its parameters are known here.
     ///
     /// # Safety
     ///
     /// The function is declared in C as `cantuvesh_judge` is in `include/cantuvesh.h`, and does what is
     /// said there.
-    pub const unsafe fn at(function: unsafe extern "C" fn()) -> Library {
+    pub const unsafe fn judging_by(self, function: unsafe extern "C" fn()) -> Library {
         // SAFETY: the caller knows that the function has these parameters.
-        Library(unsafe { mem::transmute::<unsafe extern "C" fn(), Judge>(function) })
+        Library { judge: unsafe { judge_at(function) }, ..self }
+    }
+
+    /// The same, but it merges by this function.
+    ///
+    /// # Safety
+    ///
+    /// The function is declared in C as `cantuvesh_merge` is in `include/cantuvesh.h`, and does what is
+    /// said there.
+    pub const unsafe fn merging_by(self, function: unsafe extern "C" fn()) -> Library {
+        // SAFETY: the caller knows that the function has these parameters.
+        Library { merge: unsafe { merge_at(function) }, ..self }
     }
 
     /// Judges one trace, and gives the ten numbers as they are. `include/cantuvesh.h` says what every
@@ -99,7 +157,7 @@ impl Library {
         // SAFETY: each pointer comes with the length of its own slice, the two that are written to are
         // lent alone for the time of the call, and the function takes slices of any length.
         unsafe {
-            self.0(
+            (self.judge)(
                 trace.as_ptr(),
                 trace.len(),
                 latencies.as_ptr(),
@@ -108,6 +166,24 @@ impl Library {
                 times.as_mut_ptr(),
                 times.len(),
                 wanted,
+                room.as_mut_ptr(),
+                room.len(),
+            )
+        }
+    }
+
+    /// Merges two traces, and gives the five numbers as they are. `include/cantuvesh.h` says what every
+    /// argument means.
+    pub fn merge(self, first: &[u8], second: &[u8], choice: u32, room: &mut [u8]) -> Merged {
+        // SAFETY: each pointer comes with the length of its own slice, the room is lent alone for the time of
+        // the call, and the function takes slices of any length.
+        unsafe {
+            (self.merge)(
+                first.as_ptr(),
+                first.len(),
+                second.as_ptr(),
+                second.len(),
+                choice,
                 room.as_mut_ptr(),
                 room.len(),
             )

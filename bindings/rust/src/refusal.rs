@@ -50,8 +50,9 @@ refusals! {
     NoSend = 13 "the receive has no matching send"
     LongReceive = 14 "the receive's length is above its send's"
     NoTimes = 15 "no times exist: a ring of waits has latencies that add up to more than 0, or a time would be beyond the format's end"
-    RoomTooShort = 16 "the written trace was wanted and is longer than the room"
+    RoomTooShort = 16 "the trace to be written, corrected or merged, is longer than the room"
     Levels = 17 "a processor with listed records has no tracing-level mark that counts, or its last one is not what is expected"
+    SharedProcessor = 18 "both of the traces to be merged hold a listed record of the same processor"
 }
 
 impl Refusal {
@@ -64,6 +65,26 @@ impl Refusal {
 impl fmt::Display for Refusal {
     fn fmt(&self, out: &mut fmt::Formatter) -> fmt::Result {
         out.write_str(self.sentence())
+    }
+}
+
+/// Which of the traces to be merged.
+#[derive(Clone, Copy, Debug, PartialEq, Eq, Hash)]
+pub enum Which {
+    /// The first.
+    First = 1,
+    /// The second.
+    Second = 2,
+}
+
+impl Which {
+    fn numbered(number: u64) -> Option<Which> {
+        match number {
+            0 => None,
+            1 => Some(Which::First),
+            2 => Some(Which::Second),
+            other => panic!("the library refused trace {other}, which is none"),
+        }
     }
 }
 
@@ -83,7 +104,10 @@ impl fmt::Display for Refusal {
 pub struct Refused {
     /// The reason.
     pub refusal: Refusal,
-    /// The line that it means, counted from 1; none where the whole call is meant.
+    /// The trace that it means, where two were to be merged; none where both or the whole call are meant, and
+    /// where one was judged.
+    pub which: Option<Which>,
+    /// The line that it means, counted from 1 in its own trace; none where no line is meant.
     pub line: Option<NonZero<u64>>,
     /// Where the field that decides begins in the line, counted from 1 in bytes; one past the line's last
     /// byte where a field or the LF is missing. The refusals 5 to 10 have it, and no others.
@@ -91,17 +115,29 @@ pub struct Refused {
 }
 
 impl Refused {
-    pub(crate) fn of(answer: raw::Answer) -> Refused {
-        let raw::Answer { number, line, column, .. } = answer;
+    pub(crate) fn judging(raw::Answer { number, line, column, .. }: raw::Answer) -> Refused {
+        Refused::of(number, 0, line, column)
+    }
+
+    pub(crate) fn merging(raw::Merged { number, which, line, column, .. }: raw::Merged) -> Refused {
+        Refused::of(number, which, line, column)
+    }
+
+    /// By its numbers.
+    fn of(number: u64, which: u64, line: u64, column: u64) -> Refused {
         let refusal = Refusal::numbered(number);
         let refusal = refusal.unwrap_or_else(|| panic!("the library gave refusal {number}, which is none"));
-        Refused { refusal, line: NonZero::new(line), column: NonZero::new(column) }
+        let which = Which::numbered(which);
+        Refused { refusal, which, line: NonZero::new(line), column: NonZero::new(column) }
     }
 }
 
 impl fmt::Display for Refused {
     fn fmt(&self, out: &mut fmt::Formatter) -> fmt::Result {
         write!(out, "refused {}", self.refusal.number())?;
+        if let Some(which) = self.which {
+            write!(out, " trace {}", which as u64)?;
+        }
         if let Some(line) = self.line {
             write!(out, " line {line}")?;
         }

@@ -110,7 +110,8 @@ fn lenient_passes_over_what_strict_refuses() {
 
 /// Reason, line and column, 0 where there is none.
 fn reason(answer: Result<Accepted, Refused>) -> (Refusal, u64, u64) {
-    let Refused { refusal, line, column } = answer.unwrap_err();
+    let Refused { refusal, which, line, column } = answer.unwrap_err();
+    assert_eq!(which, None);
     (refusal, line.map_or(0, NonZero::get), column.map_or(0, NonZero::get))
 }
 

@@ -4,17 +4,29 @@ use super::Case;
 use super::random::Random;
 use crate::{LATENCIES, MAX_BYTES, MAX_LATENCY, MAX_RECORDS};
 
-/// Room of a length that tells: just enough, one byte short, none, or more than is needed. A trace
-/// that is refused anyway has some room, too, to be left alone.
+/// Choices that are none.
+const WRONG_CHOICES: [u32; 8] = [0, 3, 4, u32::MAX, 1 << 16, 257, 0x8000_0001, 0x8000_0002];
+
+pub fn wrong_choice(random: &mut Random) -> u32 {
+    random.pick(&WRONG_CHOICES)
+}
+
+/// Room for what a case writes. A trace that is refused anyway has some room, too, to be left alone.
 pub fn room(case: &Case, random: &mut Random) -> usize {
     let answer = case.unhindered();
     let needed = if answer.number == 0 { answer.written as usize } else { case.trace.len().min(200) };
+    room_about(needed, case.trace.len(), random)
+}
+
+/// Room of a length that tells: just enough, one byte short, none, or more than is needed; or as much as
+/// something else has.
+pub fn room_about(needed: usize, other: usize, random: &mut Random) -> usize {
     match random.below(20) {
         0..9 => needed,
         9..12 => needed.saturating_sub(1),
         12 => 0,
         13 => random.place(needed + 1),
-        14 => case.trace.len(),
+        14 => other,
         15 => MAX_BYTES,
         _ => needed + random.place(100),
     }
@@ -27,7 +39,7 @@ pub fn spoil(case: &mut Case, random: &mut Random) {
     if random.chance(often) {
         let which = random.below(5);
         if which < 3 {
-            case.asked.choice = random.pick(&[0, 3, 4, u32::MAX, 1 << 16, 257, 0x8000_0001, 0x8000_0002]);
+            case.asked.choice = wrong_choice(random);
         }
         if which > 1 {
             case.asked.levels =

@@ -59,7 +59,7 @@ fn one_of<'a>(random: &mut Random, levels: &'a mut Levels) -> &'a mut i64 {
 /// has none. None if the trace is refused by a line, or would be.
 fn with_marks(random: &mut Random, choice: u32, trace: &[u8], told: Levels) -> Option<Vec<u8>> {
     let reading = if choice == 1 { Choice::Strict } else { Choice::Lenient };
-    let listed = trace::read(trace, reading).ok()?.records;
+    let listed = trace::lines(trace, reading).ok()?.records;
     let lines: Vec<&[u8]> = trace.split_inclusive(|&byte| byte == b'\n').collect();
     let mut added: Vec<Vec<Record>> = vec![Vec::new(); lines.len() + 1];
     // Of a trace with many processors one that is wrong is enough.

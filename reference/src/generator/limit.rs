@@ -114,7 +114,7 @@ pub fn bytes(random: &mut Random) -> Draft {
 }
 
 /// Brings a trace to this length by one long line that is passed over.
-fn fill(random: &mut Random, trace: &mut Vec<u8>, length: usize) {
+pub fn fill(random: &mut Random, trace: &mut Vec<u8>, length: usize) {
     let start: &[u8] = random.pick(&[&b"-5 0 0.000000 0 0 1 "[..], b"-3 -1 1.000000 99 9 999 ", b"-5 "]);
     if trace.len() + start.len() < length {
         trace.extend(start);

@@ -4,8 +4,8 @@
 //! and what else has a known shape, [`nonblocking`] gives messages of both to calls that do not wait,
 //! [`damage`] spoils them, [`stroke`] by one byte alone, [`fault`] spoils chosen fields of one line, [`near`]
 //! and [`soup`] put lines together from good and bad parts, [`limit`] goes to the ends of every size and
-//! number, [`level`] expects tracing levels and marks them, and [`call`] is the rest of a call. The
-//! benchmark's traces are in [`workload`], and stay as they are.
+//! number, [`level`] expects tracing levels and marks them, and [`call`] is the rest of a call. [`pair`]
+//! makes two traces of them, to be merged. The benchmark's traces are in [`workload`], and stay as they are.
 
 mod call;
 mod damage;
@@ -14,6 +14,7 @@ mod level;
 mod limit;
 mod near;
 mod nonblocking;
+pub mod pair;
 pub mod random;
 pub mod record;
 mod run;

@@ -15,6 +15,14 @@ pub struct Workload {
     pub wanted: bool,
 }
 
+/// Two traces that are merged.
+pub struct Nodes {
+    pub name: &'static str,
+    pub first: Vec<u8>,
+    pub second: Vec<u8>,
+    pub choice: u32,
+}
+
 /// Ten processors keep a line of a message at 30 bytes, so that 2,048 of them fit.
 const ROW: usize = 10;
 const LATENCY: u32 = 20;
@@ -42,6 +50,37 @@ pub fn all() -> Vec<Workload> {
         of("a hundred negative types on one pair", trace_of(&many_types(MAX_RECORDS, -100..0)), 5),
         of("a bad last line", bad_last_line(sound), LATENCY),
     ]
+}
+
+pub fn merged() -> Vec<Nodes> {
+    let [first, second] = neighbours_on_two_nodes();
+    let [ours, theirs] = [0, 1].map(statistics);
+    vec![
+        Nodes { name: "two traces of 2,048 records, merged", first, second, choice: 1 },
+        Nodes { name: "two of lines passed over, merged", first: ours, second: theirs, choice: 2 },
+    ]
+}
+
+/// Half of the row on either node, as many records as it may have.
+fn neighbours_on_two_nodes() -> [Vec<u8>; 2] {
+    let all = neighbours(3 * MAX_RECORDS, ROW, i64::from(LATENCY));
+    let half = ROW as i64 / 2;
+    let (mut ours, mut theirs): (Vec<_>, Vec<_>) =
+        all.into_iter().partition(|record| record.processor < half);
+    [&mut ours, &mut theirs].map(|records| {
+        records.truncate(MAX_RECORDS);
+        trace_of(records)
+    })
+}
+
+/// Statistics of one node, as many as there is room for, each between two of another one's.
+fn statistics(node: usize) -> Vec<u8> {
+    let line = |place| {
+        let micros = 2 * place + node;
+        format!("-101 -1 0.{micros:06} {node} 0 2 \"%d%lf\" 0 0.000523 1 0.001013\n")
+    };
+    let lines = MAX_BYTES / line(0).len();
+    (0..lines).map(line).collect::<String>().into_bytes()
 }
 
 fn user_events(records: usize) -> Vec<Record> {

@@ -1,9 +1,12 @@
 //! What the tests share: a judge with everything lent as it should be, the sample traces, and how judges that
 //! are wrong are found out.
 
+use reference::generator::pair::Pair;
 use reference::generator::{Case, flat_table};
+use reference::line::{self, Line};
+use reference::merge::{Merged, merge};
 use reference::trial::{Call, difference};
-use reference::{Answer, Asked, Inputs, MAX_BYTES, MAX_RECORDS, judge};
+use reference::{Answer, Asked, Choice, Inputs, MAX_BYTES, MAX_RECORDS, judge, merge_trial};
 
 #[allow(dead_code)]
 pub const TRACE_A: &str = "\
@@ -119,4 +122,38 @@ pub fn found_among(mut cases: impl Iterator<Item = Case>, wrong: impl Fn(Inputs)
         let given = theirs.run(&case, &wrong);
         difference((&expected, &ours), (&given, &theirs)).is_some()
     })
+}
+
+/// Whether one of the first pairs finds a merger out. What is wrong is wrong in few of them, now and then.
+#[allow(dead_code)]
+pub fn merger_is_found(wrong: impl Fn(&[u8], &[u8], u32, &mut [u8]) -> Merged) -> bool {
+    merger_differs_in(20_000, wrong)
+}
+
+/// Whether none of them does, of fewer.
+#[allow(dead_code)]
+pub fn merger_passes(right: impl Fn(&[u8], &[u8], u32, &mut [u8]) -> Merged) -> bool {
+    !merger_differs_in(5_000, right)
+}
+
+#[allow(dead_code)]
+fn merger_differs_in(pairs: u64, merger: impl Fn(&[u8], &[u8], u32, &mut [u8]) -> Merged) -> bool {
+    let (mut ours, mut theirs) = (merge_trial::Call::default(), merge_trial::Call::default());
+    (0..pairs).map(Pair::from_seed).any(|pair| {
+        let expected = ours.run(&pair, merge);
+        let given = theirs.run(&pair, &merger);
+        merge_trial::difference((&expected, &ours), (&given, &theirs)).is_some()
+    })
+}
+
+/// The lines of a trace, each with its LF.
+#[allow(dead_code)]
+pub fn lines_of(trace: &[u8]) -> impl DoubleEndedIterator<Item = &[u8]> {
+    trace.split_inclusive(|&byte| byte == b'\n')
+}
+
+/// Whether lenient reading passes over a line.
+#[allow(dead_code)]
+pub fn is_passed(line: &[u8]) -> bool {
+    line::read(line.strip_suffix(b"\n").unwrap_or(line), Choice::Lenient) == Ok(Line::Passed)
 }
