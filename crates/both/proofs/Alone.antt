@@ -1,15 +1,15 @@
 -- One trace read by itself into a store, and then both.
-use Prim.Native.Nat.{ℕ, _≤_, _<_, _^_}
+use Prim.Native.Nat.{ℕ, _≤_, _<_}
 use native.Mathlib.Omega.{arith}
-use mathlib.Core.Path.{_≡_, refl, sym, ap, _∙_}
+use mathlib.Core.Path.{_≡_, refl, sym, _∙_}
 use mathlib.Core.Bool.{Bool, true, false}
 use mathlib.Core.List.{List}
 use lib.ListN.{length}
 use borrow.Author.Tests.{le-leb, lt-leb}
 use Rattle.paper.specs.Columns.{nowhere}
-use Rattle.paper.specs.Reading.{Reading, readOf}
+use Rattle.paper.specs.Reading.{readOf}
 use Rattle.paper.specs.Answer.{longest}
-use Rattle.paper.specs.Merging.{mostAlone, readAlone, stopAlone, shareOne, tallyOf, onReadings, onSecondTrace, onFirstTrace, bothOf}
+use Rattle.paper.specs.Merging.{mostAlone, readAlone, stopAlone, shareOne, onReadings, onSecondTrace, onFirstTrace, bothOf}
 use Rattle.paper.specs.declared.Both.{Both}
 use Rattle.paper.specs.declared.Both.the-variants.{Apart, Unfit}
 use Rattle.paper.specs.declared.Choice.{Choice}

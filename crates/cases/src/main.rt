@@ -31,8 +31,8 @@ fn lock(name: &[u8]) {
 // A text of latencies as long as one may be, and one with a byte more: a rule, and then a comment.
 fn write_long() {
     let text = long_text();
-    write(b"full.latencies", b"", &text[0..262_144], b"");
-    write(b"overlong.latencies", b"", &text, b"");
+    write_first(b"full.latencies", b"", &text, 262_144, b"");
+    write_first(b"overlong.latencies", b"", &text, 262_145, b"");
 }
 
 // Two traces of one line, which lenient passes over. With 40,960 bytes of another trace the first fills a room of 65,536, and the second has
@@ -40,8 +40,8 @@ fn write_long() {
 fn write_filling() {
     let text = long_text();
     let head = b"-5 0 0.000000 0 0 1 ";
-    write(b"fills.picl", head, &text[0..24_555], b"\n");
-    write(b"overfills.picl", head, &text[0..24_556], b"\n");
+    write_first(b"fills.picl", head, &text, 24_555, b"\n");
+    write_first(b"overfills.picl", head, &text, 24_556, b"\n");
 }
 
 fn long_text() -> [u8; 262145]
@@ -54,6 +54,14 @@ fn long_text() -> [u8; 262145]
     text[3] = b' ';
     text[4] = b'5';
     text
+}
+
+// The first bytes of a text.
+fn write_first(name: &[u8], head: &[u8], text: &[u8], n: usize, end: &[u8]) {
+    if text.len() < n {
+        return;
+    }
+    write(name, head, &text[0..n], end);
 }
 
 // A text into a file, whatever it held, between what comes before and what comes behind it.

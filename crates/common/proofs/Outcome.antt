@@ -1,10 +1,9 @@
 -- The statements leave one answer: one table of the processors that hold records and, by such a table, one answer to 18.
-use Prim.Native.Nat.{ℕ, _<_}
+use Prim.Native.Nat.{_<_}
 use native.Mathlib.Omega.{arith}
 use mathlib.Core.Path.{_≡_, sym, _∙_}
 use mathlib.Core.Bool.{Bool, false}
 use mathlib.Core.List.{List}
-use lib.ListN.{length}
 use lib.Seq.{ext-getD}
 use Rattle.paper.specs.Merging.{shareOne}
 use Rattle.paper.specs.declared.Entry.{Entry}

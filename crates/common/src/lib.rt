@@ -1,6 +1,5 @@
 // 18: "if both hold a listed record of one processor". Each trace's records are gone over once, as they stand in the store after it was
 // read; lines that are passed over are not there.
-ghost use Prim.Native.Nat.{ℕ};
 ghost use mathlib.Core.Path.{_≡_};
 ghost use mathlib.Core.List.{List};
 ghost use Rattle.paper.specs.Merging.{shareOne};

@@ -1,6 +1,5 @@
 // From the bytes of both traces to what is said of them: "cannot read", the merging, and the file for the merged trace. Both traces are
 // lent for one lifetime, as the merging takes them.
-ghost use mathlib.Core.Path.{_≡_};
 ghost use Rattle.files.specs.File.{fileOf};
 ghost use Rattle.files.specs.Told.{ByStored};
 ghost use Rattle.gather.specs.Program.{onTraces, onFiles};

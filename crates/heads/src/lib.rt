@@ -1,5 +1,6 @@
-// The line that is next in a trace of which some is merged: where it stands, and its timestamp.
+// The line that is next in a trace of which some is merged: where it stands, and its timestamp; and which of two goes.
 ghost use mathlib.Core.Path.{_≡_};
+ghost use lib.Signed.{leZ};
 ghost use Rattle.paper.specs.Merging.{stampOf};
 ghost use Rattle.heads.specs.Heads.{HeadAt};
 use field::Form;
@@ -48,4 +49,14 @@ pub fn head_at(s: &[u8], at: usize) -> Head
         to: end + 1,
         time: time,
     }
+}
+
+// Which of two lines goes next: "the line with the smaller timestamp .., the first trace's where equal".
+pub fn first_goes(a: Head, b: Head) -> bool
+    ensures { λ r. ⌜ r ≡ leZ (a .time) (b .time) ⌝ }
+{
+    if signed::earlier(b.time, a.time) {
+        return false;
+    }
+    true
 }

@@ -1,6 +1,6 @@
 -- "Refusal 1 comes first, then 4 to 12 of the first trace, then of the second, then 18, line 0, if both hold a listed record of one
 -- processor, then 16; each says which trace it means, 0 for neither": when each is given, with the trace, the line and the column.
-use Prim.Native.Nat.{ℕ, _+_, _≤_, _<_}
+use Prim.Native.Nat.{_+_, _≤_, _<_}
 use mathlib.Core.Path.{_≡_}
 use lib.ListN.{length}
 use Rattle.paper.specs.Numbers.{numberOf}

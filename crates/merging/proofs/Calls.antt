@@ -1,8 +1,7 @@
 -- The calls: what they come to by what was heard, by what both traces came to and by the room; and that told in numbers.
 use Prim.Native.Nat.{ℕ, _+_, _≤_, _<_}
-use native.Mathlib.Omega.{arith}
-use mathlib.Core.Path.{_≡_, refl, sym, ap, _∙_}
-use mathlib.Core.Bool.{Bool, true, false, cond}
+use mathlib.Core.Path.{_≡_, refl, sym, _∙_}
+use mathlib.Core.Bool.{Bool, true, false}
 use mathlib.Core.List.{List}
 use mathlib.Core.Option.{some}
 use lib.ListN.{length}
@@ -10,7 +9,6 @@ use borrow.Author.Tests.{lt-ltb, le-ltb}
 use Rattle.paper.specs.Numbers.{numberOf}
 use Rattle.paper.specs.Columns.{nowhere}
 use Rattle.paper.specs.Answer.{choiceOf}
-use Rattle.paper.specs.Reading.{linesOf}
 use Rattle.paper.specs.Merging.{mergedBytes, readAlone, stopAlone, shareOne, tallyOf, linesIn, onReadings, onSecondTrace, onFirstTrace, bothOf, Merging, Mergence, unmerged, joined, onMerged, onBoth, onHeard, join, whichOf, mergedOf, merge}
 use Rattle.paper.specs.declared.Both.{Both}
 use Rattle.paper.specs.declared.Both.the-variants.{Apart, Unfit}
@@ -36,7 +34,7 @@ use Rattle.merges.specs.Parts.{alone}
 use Rattle.merges.proofs.Alone.{alone-reading, read-of, alone-ended, alone-counted}
 use Rattle.merges.proofs.Lines.{merged-length}
 use Rattle.merging.specs.Call.{merging, mergence, outcome, Counted}
-use Rattle.merging.specs.Weave.{Whole, roomAfter}
+use Rattle.merging.specs.Weave.{roomAfter}
 
 -- ---- what both traces came to
 

@@ -1,16 +1,14 @@
 -- One step: the line at the head of a trace, and what is merged where it goes.
 use Prim.Native.Nat.{ℕ, suc, _+_, _-_, _≤_, _<_}
 use native.Mathlib.Omega.{arith}
-use native.Mathlib.Numerals.{add-one}
 use mathlib.Core.Path.{_≡_, refl, sym, ap, _∙_}
-use mathlib.Core.Bool.{Bool, true, false, cond, not}
+use mathlib.Core.Bool.{Bool, true, false, cond}
 use mathlib.Core.List.{List, [], _∷_, _++_, append-assoc}
-use lib.ListN.{length, take, drop, length-append, length-drop}
+use lib.ListN.{length, take, drop, length-drop}
 use lib.Seq.{sets, take-all, length-take-le}
-use lib.IntN.{ℤ, pos, negsuc}
-use lib.Signed.{leZ, ltZ}
-use borrow.Author.Tests.{le-leb, lt-leb, leb-true, leb-false, ltb-true, ltb-false}
-use lib.Dec.{leb, ltb}
+use lib.Signed.{leZ}
+use borrow.Author.Tests.{le-leb, leb-true}
+use lib.Dec.{leb}
 use Rattle.bytes.specs.Bytes.{indexOf}
 use Rattle.paper.specs.Reading.{linesOf}
 use Rattle.paper.specs.Merging.{stampOf, mergedLines, bytesIn, mergedBytes}
@@ -21,22 +19,6 @@ use Rattle.reading.proofs.Found.{ended-at, near-ended}
 use Rattle.heads.specs.Heads.{endIn, HeadAt}
 use Rattle.heads.specs.declared.Head.{Head}
 use Rattle.merging.specs.Weave.{Fits, Within, partOf, chosen, restPut}
-
--- ---- the order of two times
-
-not-below : (a b : ℕ) (t : Bool) → t ≡ ltb b a → not t ≡ leb a b
-not-below a b true e = sym (lt-leb a b (ltb-true b a (sym e)))
-not-below a b false e = sym (le-leb a b (ltb-false b a (sym e)))
-
-not-before : (a b : ℤ) (t : Bool) → t ≡ ltZ b a → not t ≡ leZ a b
-not-before (pos a) (pos b) t e = not-below a b t e
-not-before (pos a) (negsuc b) t e = rw e
-not-before (negsuc a) (pos b) t e = rw e
-not-before (negsuc a) (negsuc b) t e = not-below b a t e
-
--- what is told of two times by whether the second is earlier, of which the code may have read both back from their bits
-pub goes-first : (a b : ℤ) {u v : ℤ} {told t : Bool} → told ≡ ltZ v u → told ≡ t → u ≡ a → v ≡ b → not t ≡ leZ a b
-goes-first a b {t = t} tells e p q = not-before a b t (sym e ∙ tells ∙ rw (p, q))
 
 -- ---- a line with its LF
 

@@ -6,7 +6,7 @@ use mathlib.Core.Path.{_≡_, refl, sym, subst, _∙_}
 use mathlib.Core.Logic.{_⊎_, inl, inr}
 use mathlib.Core.Bool.{Bool, true, false, cond}
 use mathlib.Core.List.{List, [], _++_, append-assoc, append-nil}
-use lib.ListN.{length, take, drop, length-append, length-drop, drop-of-length-le}
+use lib.ListN.{length, drop, length-append, length-drop, drop-of-length-le}
 use lib.Seq.{sets, sets-eq, length-sets}
 use lib.Signed.{leZ}
 use Rattle.paper.specs.Reading.{linesOf}
@@ -16,7 +16,7 @@ use Rattle.shown.proofs.Stores.{sets-append}
 use Rattle.heads.specs.Heads.{HeadAt}
 use Rattle.heads.specs.declared.Head.{Head}
 use Rattle.merges.proofs.Lines.{merged-length, first-empty, second-empty}
-use Rattle.merging.specs.Weave.{Whole, Fits, Within, partOf, chosen, advancedBy, Advanced, restPut, roomAfter}
+use Rattle.merging.specs.Weave.{Whole, Fits, partOf, chosen, advancedBy, Advanced, restPut, roomAfter}
 use Rattle.merging.proofs.Steps.{Line, head-line, first-next, second-next, part-long}
 
 pub record Going (first second room₀ room : List ℕ) (a b : Head) : Type 0 where

@@ -4,7 +4,6 @@ ghost use mathlib.Core.Path.{_≡_};
 ghost use Prim.Native.Nat.{_+_, _≤_};
 ghost use lib.ListN.{length};
 ghost use lib.Seq.{sets};
-ghost use lib.Signed.{leZ};
 ghost use Rattle.paper.specs.Merging.{mergedBytes};
 ghost use Rattle.merging.specs.Weave.{Within, Fits, chosen, Advanced, restPut, Whole, roomAfter};
 use heads::Head;
@@ -13,16 +12,6 @@ use heads::Head;
 struct Way {
     a: Head,
     b: Head,
-}
-
-// "the line with the smaller timestamp goes next, the first trace's where equal"
-fn first_goes(a: Head, b: Head) -> bool
-    ensures { λ r. ⌜ r ≡ leZ (a .time) (b .time) ⌝ }
-{
-    if signed::earlier(b.time, a.time) {
-        return false;
-    }
-    true
 }
 
 // "The step hands back the chosen line as a part of whichever trace it came from, uncopied."
@@ -34,7 +23,7 @@ fn step<'a>(first: &'a [u8], second: &'a [u8], a: Head, b: Head) -> &'a [u8]
     let to = a.to;
     let start = b.from;
     let end = b.to;
-    if first_goes(a, b) {
+    if heads::first_goes(a, b) {
         return &first[from..to];
     }
     &second[start..end]
@@ -60,7 +49,7 @@ fn put_next<'a>(first: &'a [u8], second: &'a [u8], a: Head, b: Head, room: &mut 
 fn advanced(first: &[u8], second: &[u8], a: Head, b: Head) -> Way
     ensures { λ r. ⌜ Advanced (now (first .entry)) (now (second .entry)) a b (r .a) (r .b) ⌝ }
 {
-    if first_goes(a, b) {
+    if heads::first_goes(a, b) {
         return Way {
             a: heads::head_at(first, a.to),
             b: b,

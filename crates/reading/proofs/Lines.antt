@@ -1,22 +1,14 @@
 -- The lines of bytes: the first one cut off, and lines after lines.
-use Prim.Native.Nat.{ℕ, zero, suc, _+_, _≤_, _<_}
-use mathlib.Core.Path.{_≡_, refl, sym, ap, _∙_}
+use Prim.Native.Nat.{ℕ, suc, _+_, _≤_, _<_}
+use mathlib.Core.Path.{_≡_, refl, ap, _∙_}
 use mathlib.Core.List.{List, [], _∷_, _++_}
 use mathlib.Core.Bool.{Bool, true, false, cond}
 use native.Mathlib.Omega.{arith}
-use native.Mathlib.Nat.{add-zero}
 use lib.ListN.{length, take, drop}
 use lib.Dec.{eqb}
-use borrow.Author.Tests.{eqb-true, eqb-false}
 use Rattle.bytes.specs.Bytes.{indexOf, indexAfter}
-use Rattle.paper.specs.Reading.{Lines, done, unended, ended, before, linesOf, State, Reading, withEntry, onLine, readFrom, checked}
-use Rattle.paper.specs.Line.{lineOf}
-use Rattle.paper.specs.declared.Choice.{Choice}
-use Rattle.paper.specs.declared.Line.{Line}
-use Rattle.paper.specs.declared.Line.the-variants.{Refused, Passed, Listed}
-use Rattle.paper.specs.declared.Stop.{Stop}
-use Rattle.paper.specs.declared.Stop.the-variants.{End, At}
-use Rattle.reading.specs.Joined.{AllEnded, lineCount, followed, behind, resumed}
+use Rattle.paper.specs.Reading.{Lines, done, unended, ended, before, linesOf}
+use Rattle.reading.specs.Joined.{AllEnded, lineCount, followed}
 
 -- ---- the first line
 

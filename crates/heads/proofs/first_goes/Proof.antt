@@ -1,11 +1,11 @@
--- `merging::weave::first_goes` meets its contract.
+-- `heads::first_goes` meets its contract.
 use mathlib.Core.Path.{_≡_}
 use mir.Syntax.{w64}
 use mir.Val.{toZ, ofZ}
-use Rattle.merging.proofs.Steps.{goes-first}
+use Rattle.heads.proofs.Order.{goes-first}
 use borrow.Author.Needs.{needs}
-use Rattle.merging.proofs.weave.first_goes.Statement.{statement}
-use Rattle.merging.proofs.weave.first_goes.Tie as tie
+use Rattle.heads.proofs.first_goes.Statement.{statement}
+use Rattle.heads.proofs.first_goes.Tie as tie
 
 earlier-requires : tie.Need-earlier-requires
 earlier-requires c κs = search needs
