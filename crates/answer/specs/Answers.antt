@@ -1,11 +1,15 @@
 -- The answers in parts: document 01's definitions have them within the outcome of a whole call.
 use Prim.Native.Nat.{ℕ}
+use mathlib.Core.Bool.{cond}
 use lib.Dec.{ltb}
+use Rattle.paper.specs.Columns.{nowhere}
 use Rattle.paper.specs.Numbers.{numberOf}
 use Rattle.paper.specs.Answer.{verdictOf}
 use Rattle.paper.specs.declared.Fault.{Fault}
+use Rattle.paper.specs.declared.Fault.the-variants.{NoRoom}
 use Rattle.paper.specs.declared.Site.{Site}
 use Rattle.paper.specs.declared.Answer.{Answer}
+use Rattle.paper.specs.declared.Filled.{Filled}
 use Rattle.answer.specs.declared.Counts.{Counts}
 
 -- "Every refusal returns its number and line, verdict 0 and all counts 0"
@@ -42,3 +46,12 @@ acceptance c written =
       rounds = c .rounds;
       written = written;
     }
+
+-- ---- of a call that fills a list
+
+unfoldable pub unfilling : Fault → Site → Filled
+unfilling fault site = record { number = numberOf fault; line = site .line; column = site .column; filled = 0 }
+
+-- "then a list too short is 16"
+unfoldable pub fillingIn : (count places : ℕ) → Filled
+fillingIn count places = cond (ltb places count) (unfilling NoRoom nowhere) (record { number = 0; line = 0; column = 0; filled = count })

@@ -1,4 +1,8 @@
 // The answer that a call comes to: a refusal by its number, line and column, or acceptance with its verdict and its counts.
+mod list;
+
+pub use list::filled_list;
+pub use list::unfilled;
 ghost use mathlib.Core.Path.{_≡_};
 ghost use Rattle.paper.specs.Columns as columns;
 ghost use Rattle.paper.specs.Numbers.{numberOf};
@@ -38,6 +42,7 @@ pub fn number(fault: Fault) -> u64
         Fault::NoRoom => 16,
         Fault::OtherLevels => 17,
         Fault::SharedProcessor => 18,
+        Fault::NoPlace => 22,
     }
 }
 

@@ -1,7 +1,8 @@
 // Runs the program on each line of the file `list` and prints what it reports. A line has the arguments with one space between two,
 // so that a doubled space and one at the line's end make an empty argument; an empty line has none. A line that begins with '!' has
 // the named arguments of the program for rollouts, one with '=' those of the program that makes tables, and one with '&' those of the program
-// that merges two traces. A line that begins with '>' names a file, which is printed, and one with '?' two files, which are compared. A
+// that merges two traces. One with '@' has those of the program that shows messages, and one with '^' of the one that says why a time
+// moved. A line that begins with '>' names a file, which is printed, and one with '?' two files, which are compared. A
 // line that begins with ':' has a choice and a line of a trace, which is a whole trace with its LF, and of one with '/' every beginning is,
 // without an LF. A line that begins with '|' has a choice and two lines with a bar between them, a whole trace each, which are merged. A new
 // case needs no proof.
@@ -10,6 +11,15 @@ ghost use Prim.Native.Nat.{_≤_};
 ghost use lib.ListN.{length};
 use bytes::scan::find;
 use libc::STDOUT_FILENO;
+use showing::Shows;
+
+// The programs that take a choice, two files and a word more.
+enum Program {
+    Judge,
+    Merge,
+    Messages,
+    Why,
+}
 
 fn main() {
     lock(b"locked");
@@ -87,7 +97,7 @@ fn case(line: &[u8]) {
     print(line);
     print(b"\n");
     if line.len() == 0 {
-        run(false, line);
+        run(Program::Judge, line);
         return;
     }
     match line[0] {
@@ -97,32 +107,41 @@ fn case(line: &[u8]) {
         b'!' => rollout::perform(&line[1..], b' '),
         b':' => judge_line(&line[1..]),
         b'/' => judge_beginnings(&line[1..]),
-        b'&' => run(true, &line[1..]),
+        b'&' => run(Program::Merge, &line[1..]),
+        b'@' => run(Program::Messages, &line[1..]),
+        b'^' => run(Program::Why, &line[1..]),
         b'|' => merge_lines(&line[1..]),
-        _ => run(false, line),
+        _ => run(Program::Judge, line),
     }
 }
 
-// The program that judges a trace, or the one that merges two: they take as many arguments.
-fn perform(merges: bool, count: usize, choice: &[u8], first: &[u8], second: &[u8], out: &[u8]) {
-    if merges {
-        gather::perform(count, choice, first, second, out);
-        return;
+fn perform(
+    program: Program,
+    count: usize,
+    choice: &[u8],
+    first: &[u8],
+    second: &[u8],
+    last: &[u8],
+) {
+    match program {
+        Program::Judge => shell::perform(count, choice, first, second, last),
+        Program::Merge => gather::perform(count, choice, first, second, last),
+        Program::Messages => inquiry::perform(Shows::Messages, count, choice, first, second, last),
+        Program::Why => inquiry::perform(Shows::Reasons, count, choice, first, second, last),
     }
-    shell::perform(count, choice, first, second, out);
 }
 
 // The words of a line as its arguments, with its own name in the count.
-fn run(merges: bool, line: &[u8]) {
+fn run(program: Program, line: &[u8]) {
     if line.len() == 0 {
-        perform(merges, 1, line, line, line, line);
+        perform(program, 1, line, line, line, line);
         return;
     }
     let a = behind(line, 0);
     let b = behind(line, a);
     let c = behind(line, b);
     perform(
-        merges,
+        program,
         spaces(line) + 2,
         word(line, 0),
         word(line, a),

@@ -1,8 +1,7 @@
--- `Places`, `Outcomes` and `Widths` have what callers may cite; the others are laws over plain variables, which the proofs of the
+-- `Places` and `Outcomes` have what callers may cite; the others are laws over plain variables, which the proofs of the
 -- functions cite.
 pub mod Places
 pub mod Outcomes
-pub mod Widths
 pub mod Walks
 pub mod Search
 pub mod Found

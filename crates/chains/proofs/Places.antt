@@ -11,7 +11,7 @@ use Rattle.matching.proofs.Belong.{belongs}
 use Rattle.store.proofs.Listed.{length-listed, listed-at}
 use Rattle.chains.specs.Places.{placesOf}
 
-some-place : (n : ℕ) (o : Option ℕ) → Option·getD o n < n → o ≡ some (Option·getD o n)
+pub some-place : (n : ℕ) (o : Option ℕ) → Option·getD o n < n → o ≡ some (Option·getD o n)
 some-place n none h = absurd (omega arith)
 some-place n (some j) h = refl
 

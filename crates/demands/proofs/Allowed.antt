@@ -2,27 +2,22 @@
 use Prim.Native.Nat.{ℕ, zero, suc, _+_, _*_, _≤_, _<_}
 use native.Mathlib.Omega.{arith}
 use native.Mathlib.Decide.{decLt}
-use mathlib.Core.Path.{_≡_, refl, sym, ap, _∙_}
+use mathlib.Core.Path.{_≡_, refl, sym, _∙_}
 use mathlib.Core.Option.{Option, none, some}
 use mathlib.Core.List.{List}
 use lib.ListN.{length, getD}
-use lib.IntN.{ℤ, pos, negsuc, _+ℤ_}
+use lib.IntN.{ℤ}
 use lib.Signed.{_≤ℤ_}
-use borrow.Author.Tests.{lt-ltb}
 use Rattle.paper.specs.Clock.{Sound, Least, settle, settled, listed}
 use Rattle.paper.specs.Matching.{sendOf, lastOn, latencyFor, waitsOf}
 use Rattle.paper.specs.declared.Entry.{Entry}
 use Rattle.matching.proofs.Belong.{processorAt, roleAt, belongs}
 use Rattle.matching.proofs.Before.{LastOn, last-on, none-on}
-use Rattle.rounds.proofs.Order.{≤ℤ-trans}
+use Rattle.rounds.proofs.Order.{plus-none, ≤ℤ-trans}
 use Rattle.rounds.proofs.Still.{still-settled}
 use Rattle.demands.specs.Steps.{original}
 use Rattle.demands.specs.Demand3.{Allowed, Earliest}
 use Rattle.demands.proofs.Closed.{waits-closed}
-
-plus-none : (z : ℤ) → z +ℤ pos 0 ≡ z
-plus-none (pos n) = ap pos (omega arith)
-plus-none (negsuc n) = rw (lt-ltb 0 (suc n) (omega arith)) (ap negsuc (omega arith))
 
 module _ (table : List ℕ) (es : List Entry) where
   -- "the entry at 64 times sender plus receiver"

@@ -115,6 +115,7 @@ module _ (i : Inputs) where
   row-line Fault.NoRoom s (low, high) w = absurd (omega arith)
   row-line Fault.OtherLevels s (low, high) w = absurd (omega arith)
   row-line Fault.SharedProcessor s n w = absurd w
+  row-line Fault.NoPlace s n w = absurd w
 
   of-line : (fault : Fault) (s : Site) → OfALine fault → When i fault s → (reach (given i) ≡ stopped fault s) ⊎ (fault ≡ Fault.NoRoom)
   of-line fault s n w = inl (reach-line i fault s (row-line fault s n w))
@@ -135,6 +136,7 @@ module _ (i : Inputs) where
   row-stops Fault.TooMany s w = of-line Fault.TooMany s (omega arith, omega arith) w
   row-stops Fault.OtherLevels s (o, e) = inl (reach-levels i Fault.OtherLevels s (levels-stop i s o e))
   row-stops Fault.SharedProcessor s never = absurd never
+  row-stops Fault.NoPlace s never = absurd never
   row-stops Fault.NoSend s (f, e) = inl (reach-receive i Fault.NoSend s (call-stops i s Fault.NoSend NoSend no-send-calls f e))
   row-stops Fault.LongReceive s (f, e) = inl (reach-receive i Fault.LongReceive s (call-stops i s Fault.LongReceive LongReceive long-receive-calls f e))
   row-stops Fault.NoTimes s (choice, m, none-sound, e) =

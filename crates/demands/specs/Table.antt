@@ -75,3 +75,5 @@ When i Fault.NoRoom site =
     × (i .wanted ≡ true) × (length (i .room) < length (written i choice times)) × (site ≡ nowhere)
 -- "18 .. if both hold a listed record of one processor": a judging call has one trace
 When i Fault.SharedProcessor site = ⊥
+-- "a place not below the listed count is 22": a judging call names no place
+When i Fault.NoPlace site = ⊥

@@ -3,7 +3,7 @@ use Prim.Native.Nat.{ℕ, _-_, _≤_, _<_}
 use native.Mathlib.Nat.{sub-zero}
 use native.Mathlib.Omega.{arith}
 use mathlib.Core.Path.{_≡_, refl, sym, ap, _∙_, subst}
-use mathlib.Core.List.{List, [], _∷_, _++_}
+use mathlib.Core.List.{List, [], _++_}
 use mathlib.Core.Bool.{Bool, true, false, cond, not}
 use mathlib.Core.Logic.{_↔_}
 use mathlib.Core.Option.{some}
@@ -11,7 +11,7 @@ use lib.ListN.{length, take, drop}
 use lib.Seq.{ext-getD}
 use lib.IntN.{ℤ, pos}
 use lib.Dec.{T, ltb, leb, eqb}
-use borrow.Author.Tests.{lt-ltb, le-ltb, le-leb, eq-eqb, eqb-true}
+use borrow.Author.Tests.{lt-ltb, le-ltb, le-leb, eqb-true}
 use Rattle.paper.specs.Columns.{nowhere}
 use Rattle.paper.specs.Answer.{Inputs, Found, stopped, found, given, most, rightLengths, reach, conclude, judge, accepted, originals, onWritten, written, refused}
 use Rattle.paper.specs.Clock.{Waits, listed, same, timeAt}
@@ -31,13 +31,12 @@ use Rattle.rounds.proofs.Meaning.{settled-answer}
 use Rattle.rounds.proofs.Still.{still-iff}
 use Rattle.forms.proofs.Tests.{both}
 use Rattle.store.proofs.Listed.{length-listed, listed-at}
-use Rattle.engine.specs.Promise.{allAre}
 use Rattle.waits.proofs.Closed.{closed-waits}
 use Rattle.demands.proofs.InOrder.{few-entries, originals-range}
 use Rattle.demands.proofs.Rising.{between}
 use Rattle.reach.specs.declared.Reached.{Reached}
 use Rattle.reach.specs.declared.Reached.the-variants.{Times, Refused, Misfit}
-use Rattle.reach.specs.Reach.{fits, Held, reaches}
+use Rattle.reach.specs.Reach.{Held, reaches}
 use Rattle.reach.proofs.Means.{Means, found-means}
 use Rattle.writing.specs.Outcome.{WrittenInto}
 use Rattle.writing.specs.declared.Written.{Written}
@@ -227,9 +226,3 @@ unfolding WithPlaces reaches
 with-places i (Times counts) store sends new (f, is, held) long = omega (arith, held .listed, few i f is)
 with-places i (Refused fault site) store sends new says long = tt
 with-places i Misfit store sends new says long = tt
-
--- slices made for as many records as a call may list
-pub all-fit : (most : ℕ) {space sends before latency times spare : ℕ} → space ≡ most → sends ≡ most → before ≡ most → latency ≡ most → times ≡ most
-    → spare ≡ most → fits most space (times ∷ sends ∷ before ∷ latency ∷ spare ∷ []) ≡ true
-unfolding fits allAre
-all-fit most c s b l t p = rw (c, s, b, l, t, p, eq-eqb most most refl)

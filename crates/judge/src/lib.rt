@@ -1,29 +1,13 @@
-// The one public call: a trace, a latency table and what the caller names in, the answer out, with the corrected times and, if asked
+// The judging call: a trace, a latency table and what the caller names in, the answer out, with the corrected times and, if asked
 // for, the corrected trace in what the caller lent. Refusals come in the paper's order: how far the call comes is said by crate
-// reach, 16 and acceptance stand in conclude.rt. Nothing lent is touched before all of them are decided.
+// seek, 16 and acceptance stand in conclude.rt. Nothing lent is touched before all of them are decided.
 mod conclude;
 
 ghost use mathlib.Core.Path.{_≡_};
-ghost use lib.ListN.{length};
 ghost use Rattle.paper.specs.Answer.{judge};
 ghost use Rattle.judge.specs.Call.{inputs, outcome};
 use paper::Answer;
 use paper::Asked;
-
-// ---- All local arrays that grow with the number of records stand in `judge`, each made by a function of its own, so that no other
-// proof meets so many zeros.
-
-fn places() -> [u32; 2048]
-    ensures { λ r. ⌜ length r ≡ 2048 ⌝ }
-{
-    [0; 2048]
-}
-
-fn blanks() -> [i64; 2048]
-    ensures { λ r. ⌜ length r ≡ 2048 ⌝ }
-{
-    [0; 2048]
-}
 
 pub fn judge(
     trace: &[u8],
@@ -36,22 +20,16 @@ pub fn judge(
     ensures { λ r. ⌜ outcome r (now (times .exit)) (now (room .exit)) ≡ judge (inputs (now (trace .entry)) (now (latencies .entry)) asked (now (times .entry)) wanted (now (room .entry))) ⌝ }
 {
     let mut store = store::empty();
-    let mut sends = places();
-    let mut before = places();
-    let mut latency = places();
-    let mut new = blanks();
-    let mut spare = blanks();
-    let reached = reach::reach(
+    let mut sends = seek::places();
+    let mut new = seek::blanks();
+    let reached = seek::seek(
         trace,
         latencies,
         asked,
         times.len(),
         &mut store,
         &mut sends,
-        &mut before,
-        &mut latency,
         &mut new,
-        &mut spare,
     );
     conclude::conclude(reached, trace, &store, &new, times, wanted, room)
 }

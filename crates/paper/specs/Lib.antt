@@ -1,5 +1,6 @@
 -- Document 01 as definitions, with the change requests, a file to each part. `Answer` is the whole, from a call's inputs to its outcome;
--- those before it stand in the order in which that reads them. `Merging` is the other call.
+-- those before it stand in the order in which that reads them. `Merging` is the call that merges; `Filling`, `Messages` and `Chain` are the
+-- two that fill a list.
 pub mod Text
 pub mod Tests
 pub mod Numbers
@@ -14,3 +15,6 @@ pub mod Clock
 pub mod Written
 pub mod Answer
 pub mod Merging
+pub mod Filling
+pub mod Messages
+pub mod Chain

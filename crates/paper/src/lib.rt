@@ -38,8 +38,8 @@ pub enum Standing {
     Unlisted,
 }
 
-// Why something is refused: a case for each row of the paper's table of numbers, from 1 to 16, then 17 of the first change request and
-// 18 of the sixth.
+// Why something is refused: a case for each row of the paper's table of numbers, from 1 to 16, then 17 of the first change request, 18 of
+// the sixth and 22 of the seventh.
 pub enum Fault {
     BadChoice,
     WrongLength,
@@ -59,6 +59,7 @@ pub enum Fault {
     NoRoom,
     OtherLevels,
     SharedProcessor,
+    NoPlace,
 }
 
 // The six fields that every record begins with.
@@ -203,4 +204,20 @@ pub struct Merged {
     pub line: u64,
     pub column: u64,
     pub written: u64,
+}
+
+// A message by the places of its send and of its receive, counted from 0, laid out as C has it.
+#[repr(C)]
+pub struct Pair {
+    pub send: u64,
+    pub receive: u64,
+}
+
+// What the caller of a call that fills a list gets back, laid out as C has it.
+#[repr(C)]
+pub struct Filled {
+    pub number: u64,
+    pub line: u64,
+    pub column: u64,
+    pub filled: u64,
 }

@@ -29,7 +29,7 @@ counted : {trace : List ℕ} (f : Found) {counts : Counts} {store sends : List �
 counted f h = rw (h .listed, h .passed, h .matched, h .unreceived, h .rounds)
 
 module _ (trace : List ℕ) (x : paper.Reached) (store store′ sends sends′ : List ℕ) (times times′ : List ℤ) where
-  one-answer : (r q : Reached) → reaches trace x r store sends times → reaches trace x q store′ sends′ times′ → r ≡ q
+  pub one-answer : (r q : Reached) → reaches trace x r store sends times → reaches trace x q store′ sends′ times′ → r ≡ q
   unfolding reaches
   one-answer (Times a) (Times b) (f, e, h) (g, d, k) =
       let same : f ≡ g = let z : found f ≡ found g = sym e ∙ d in cc in

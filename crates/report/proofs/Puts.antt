@@ -1,6 +1,6 @@
 -- A text put into a room: one copied there, and one behind another.
 use Prim.Native.Nat.{ℕ, _+_, _-_, _≤_}
-use mathlib.Core.Path.{_≡_, refl, sym, _∙_}
+use mathlib.Core.Path.{_≡_, sym, _∙_}
 use mathlib.Core.List.{List, [], _++_, append-nil, append-assoc}
 use native.Mathlib.Omega.{arith}
 use lib.ListN.{length, take, drop, length-drop, length-take, length-append}
@@ -23,11 +23,11 @@ module _ {room : List ℕ} {at : ℕ} {a : List ℕ} {mid : ℕ} {between : List
   in-two : between ≡ (take at room ++ a) ++ drop mid room
   in-two = p .holds ∙ sym (append-assoc (take at room) a (drop mid room))
 
-  front : take mid between ≡ take at room ++ a
+  pub front : take mid between ≡ take at room ++ a
   front = rw in-two (take-at (take at room ++ a) (drop mid room) mid front-length)
 
   -- the room stays as long as it was
-  as-long : length between ≡ length room
+  pub as-long : length between ≡ length room
   as-long = rw (in-two, length-append, front-length, length-drop) (omega (arith, p .fits))
 
   pub counted : Counts mid between

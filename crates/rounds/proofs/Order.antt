@@ -47,6 +47,11 @@ depth-add (pos m) v = omega arith
 depth-add (negsuc m) v =
     test (λ z. depth z ≤ suc m) (ltb v (suc m)) (negsuc (suc m - suc v)) (pos (v - suc m)) (λ h. omega arith) (λ h. omega arith)
 
+pub plus-none : (z : ℤ) → z +ℤ pos 0 ≡ z
+plus-none (pos n) = ap pos (omega arith)
+plus-none (negsuc n) = test (λ z. z ≡ negsuc n) (ltb 0 (suc n)) (negsuc (suc n - 1)) (pos (0 - suc n)) (λ h. ap negsuc (omega arith))
+    (λ h. absurd (h (lt→ltb 0 (suc n) (omega arith))))
+
 -- ---- the order
 
 pub ≤ℤ-trans : {a b c : ℤ} → a ≤ℤ b → b ≤ℤ c → a ≤ℤ c

@@ -1,2 +1,3 @@
 pub mod Claim
 pub mod Merges
+pub mod Lists

@@ -1,2 +1,3 @@
 pub mod Samples
 pub mod Merges
+pub mod Lists

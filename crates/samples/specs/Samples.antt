@@ -17,7 +17,7 @@ use Rattle.report.specs.Report.{reportOf}
 
 -- ---- the traces
 
-abbrev traceA : List String
+abbrev pub traceA : List String
 traceA =
     "-3 -21 0.000010 0 0 3 2 8 1 1\n"
     ∷ "-4 -21 0.000012 0 0 0\n"
@@ -26,7 +26,7 @@ traceA =
     ∷ "-4 -51 0.000013 0 0 3 2 8 2 1\n"
     ∷ []
 
-abbrev traceB : List String
+abbrev pub traceB : List String
 traceB =
     "-4 -52 0.000001 0 0 3 2 8 1 1\n"
     ∷ "-3 -21 0.000002 0 0 3 2 8 1 1\n"
@@ -110,7 +110,7 @@ abbrev pub joined : List String → List ℕ
 joined [] = []
 joined (l ∷ ls) = bytesOf l ++ joined ls
 
-abbrev everywhere : ℕ → List ℕ
+abbrev pub everywhere : ℕ → List ℕ
 everywhere latency = replicate 4096 latency
 
 -- 2,048 lent times, and no room: the written trace is not asked for

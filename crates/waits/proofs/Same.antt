@@ -45,7 +45,7 @@ module _ (table : List ℕ) (es : List Entry) where
   lastAt i = lastOn es (processorAt es i) i
 
   -- the tables stand for the waits that the paper tells of
-  tables-agree : {originals : List ℤ} {before send latency : List ℕ} → Given table es originals before send latency
+  pub tables-agree : {originals : List ℤ} {before send latency : List ℕ} → Given table es originals before send latency
       → First (waitsOf originals before send latency) (paper.waitsOf table es)
   unfolding waitsOf originalsOf beforesOf latenciesOf paper.waitsOf lastAt
   tables-agree g =

@@ -47,7 +47,7 @@ pub fn originals_into(store: &[u32], out: &mut [i64])
 }
 
 // The same number for each of the sixty-four processors.
-fn for_each(n: u32) -> [u32; 64]
+pub fn for_each(n: u32) -> [u32; 64]
     ensures { λ r. ⌜ r ≡ replicate 64 n ⌝ }
 {
     [n; 64]

@@ -4,7 +4,7 @@ use mathlib.Core.Path.{sym, _∙_}
 use native.Mathlib.Omega.{arith}
 use borrow.Author.Needs.{needs}
 use lib.ListN.{length}
-use Rattle.chains.proofs.Widths.{widens}
+use Rattle.store.proofs.Widths.{widens}
 use Rattle.chains.proofs.Walks.{comes-to, comes-out}
 use Rattle.chains.proofs.Search.{Forwards, forward-begins, forward-less, forward-turns}
 use Rattle.chains.proofs.next_send.Statement.{statement}

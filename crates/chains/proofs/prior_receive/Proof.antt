@@ -2,7 +2,7 @@
 use mathlib.Core.Path.{sym, _∙_}
 use native.Mathlib.Omega.{arith}
 use borrow.Author.Needs.{needs}
-use Rattle.chains.proofs.Widths.{widens}
+use Rattle.store.proofs.Widths.{widens}
 use Rattle.chains.proofs.Walks.{comes-back-to, comes-back-out}
 use Rattle.chains.proofs.Search.{Backwards, backward-begins, backward-less, backward-turns}
 use Rattle.chains.proofs.prior_receive.Statement.{statement}

@@ -1,6 +1,6 @@
 -- `chains::start_from` meets its contract: its tests are those of `startFrom`.
 use borrow.Author.Needs.{needs}
-use Rattle.chains.proofs.Widths.{widens}
+use Rattle.store.proofs.Widths.{widens}
 use Rattle.chains.proofs.Search.{start-head, start-behind, start-none}
 use Rattle.chains.proofs.start_from.Statement.{statement}
 use Rattle.chains.proofs.start_from.Tie as tie

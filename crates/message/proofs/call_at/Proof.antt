@@ -1,7 +1,7 @@
 -- `message::call_at` meets its contract: each way out is a way of `stopAt`.
 use mathlib.Core.Path.{_∙_, ap}
 use Rattle.paper.specs.Matching.{lengthSent}
-use Rattle.chains.proofs.Widths.{widens}
+use Rattle.store.proofs.Widths.{widens}
 use Rattle.message.proofs.Calls.{calls-neither, calls-send, calls-no-send, calls-long-receive, calls-nothing}
 use borrow.Author.Needs.{needs}
 use Rattle.message.proofs.call_at.Statement.{statement}

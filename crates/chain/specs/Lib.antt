@@ -1,0 +1,3 @@
+-- `Call` is for the contracts; `Linked` ties tables of steps to the definition's.
+pub mod Linked
+pub mod Call

@@ -1,0 +1,4 @@
+-- The laws of the text of all messages.
+pub mod Lines
+pub mod Going
+pub mod Deliveries

@@ -1,0 +1,2 @@
+-- What the text of a trace's messages is.
+pub mod Deliveries

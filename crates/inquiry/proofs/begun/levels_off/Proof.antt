@@ -1,0 +1,15 @@
+-- `inquiry::begun::levels_off` meets its contract.
+use mathlib.Core.Path.{refl}
+use Rattle.inquiry.specs.Arguments.{levelsOff}
+use Rattle.inquiry.proofs.begun.levels_off.Statement.{statement}
+use Rattle.inquiry.proofs.begun.levels_off.Tie as tie
+
+returns : tie.Need-returns
+unfolding levelsOff
+returns c = refl
+
+pub levels-off-spec : {M : Type 1} → statement M
+levels-off-spec =
+    tie.close
+    (tie.spec
+    returns)

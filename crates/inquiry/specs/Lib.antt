@@ -1,0 +1,3 @@
+-- What the programs say, from their arguments on.
+pub mod Arguments
+pub mod Program

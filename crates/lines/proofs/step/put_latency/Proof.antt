@@ -1,0 +1,39 @@
+-- `lines::step::put_latency` meets its contract.
+use borrow.Author.Needs.{needs}
+use Rattle.paper.specs.Text.{bytesOf}
+use Rattle.report.specs.Report.{numbered}
+use Rattle.report.proofs.Puts.{then}
+use Rattle.lines.proofs.step.put_latency.Statement.{statement}
+use Rattle.lines.proofs.step.put_latency.Tie as tie
+
+slice-aggregate-put-named : tie.Need-slice-aggregate-put-named
+slice-aggregate-put-named c = search needs
+
+put-named-requires : tie.Need-put-named-requires
+put-named-requires c κs = search needs
+
+slice-aggregate-put-word : tie.Need-slice-aggregate-put-word
+slice-aggregate-put-word c = search needs
+
+put-word-requires : tie.Need-put-word-requires
+put-word-requires c κs = search needs
+
+same-length : tie.Need-same-length
+same-length c = search needs
+
+returns : tie.Need-returns
+unfolding numbered bytesOf
+returns c =
+    let c₂ = c .before .before in
+    then (c₂ .before .before .before .before .before .put-named .ensures .put) (c₂ .put-word .ensures)
+
+pub put-latency-spec : {M : Type 1} → statement M
+put-latency-spec =
+    tie.close
+    (tie.spec
+    slice-aggregate-put-named
+    put-named-requires
+    slice-aggregate-put-word
+    put-word-requires
+    same-length
+    returns)

@@ -1,0 +1,4 @@
+pub mod Laying
+pub mod Senders
+pub mod Concluding
+pub mod Outcome

@@ -1,0 +1,2 @@
+-- The laws of the search.
+pub mod Place

@@ -1,0 +1,38 @@
+-- `lookup::line_in` meets its contract.
+use borrow.Author.Needs.{needs}
+use borrow.Author.Needs.{sfits-of}
+use mir.Facts.{toZ-ofZ}
+use Rattle.lookup.proofs.Place.{no-number, a-number}
+use Rattle.lookup.proofs.line_in.Statement.{statement}
+use Rattle.lookup.proofs.line_in.Tie as tie
+
+read-number-requires : tie.Need-read-number-requires
+read-number-requires c κs = search needs
+
+enum-known-z : tie.Need-enum-known-z
+enum-known-z c = search needs
+
+enum-told : tie.Need-enum-told
+enum-told c = search needs
+
+returns : tie.Need-returns
+returns c = no-number _ (c .before .before .read-number .ensures) (c .enum-told .given .1)
+
+size-requires : tie.Need-size-requires
+size-requires c κs = search needs
+
+returns-2 : tie.Need-returns-2
+returns-2 c =
+    a-number _ (c .before .before .before .before .read-number .ensures) (c .before .before .z .given .1)
+    (toZ-ofZ (sfits-of (c .before .known-told .given .0 .1))) (c .size .ensures)
+
+pub line-in-spec : {M : Type 1} → statement M
+line-in-spec =
+    tie.close
+    (tie.spec
+    read-number-requires
+    enum-known-z
+    enum-told
+    returns
+    size-requires
+    returns-2)

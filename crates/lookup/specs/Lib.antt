@@ -1,0 +1,2 @@
+-- Where the record of a line is.
+pub mod Place

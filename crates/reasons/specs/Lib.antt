@@ -1,0 +1,2 @@
+-- What the text of a chain is.
+pub mod Reasons

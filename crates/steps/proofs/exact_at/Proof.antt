@@ -1,0 +1,60 @@
+-- `steps::exact_at` meets its contract.
+use mathlib.Core.Path.{_∙_}
+use mir.Facts.{toZ-ofZ}
+use borrow.Author.Needs.{needs, sfits-of}
+use Rattle.steps.proofs.Laws.{exact-out, exact-kept, exact-lost}
+use Rattle.steps.proofs.exact_at.Statement.{statement}
+use Rattle.steps.proofs.exact_at.Tie as tie
+
+returns : tie.Need-returns
+returns c = exact-out _ _ _ _ _ (c .if1 .taken)
+
+time-at-requires : tie.Need-time-at-requires
+time-at-requires c κs = search needs
+
+mul-kept : tie.Need-mul-kept
+mul-kept c = search needs
+
+shared-slice-copy-out-kept : tie.Need-shared-slice-copy-out-kept
+shared-slice-copy-out-kept c = search needs
+
+number-at-requires : tie.Need-number-at-requires
+number-at-requires c κs = search needs
+
+kept-requires : tie.Need-kept-requires
+kept-requires c κs = search needs
+
+returns-2 : tie.Need-returns-2
+returns-2 c =
+    let c₃ = c .before .before .before in
+    let c₄ = c₃ .before in
+    exact-kept _ _ _ _ _ (c₄ .before .if1 .left)
+    (toZ-ofZ (sfits-of (c₄ .time-at .ok)) ∙ c₄ .time-at .ensures)
+    (toZ-ofZ (sfits-of (c₃ .kept-arg .given)))
+    (c .before .before .number-at .ensures)
+    (c .before .kept .ensures)
+    (c .if2 .taken)
+
+returns-3 : tie.Need-returns-3
+returns-3 c =
+    let c₃ = c .before .before .before in
+    let c₄ = c₃ .before in
+    exact-lost _ _ _ _ _ (c₄ .before .if1 .left)
+    (toZ-ofZ (sfits-of (c₄ .time-at .ok)) ∙ c₄ .time-at .ensures)
+    (toZ-ofZ (sfits-of (c₃ .kept-arg .given)))
+    (c .before .before .number-at .ensures)
+    (c .before .kept .ensures)
+    (c .if2 .left)
+
+pub exact-at-spec : {M : Type 1} → statement M
+exact-at-spec =
+    tie.close
+    (tie.spec
+    returns
+    time-at-requires
+    mul-kept
+    shared-slice-copy-out-kept
+    number-at-requires
+    kept-requires
+    returns-2
+    returns-3)

@@ -1,0 +1,108 @@
+-- `steps::processor_steps` meets its contract. The invariant: the first i steps are there, and of each processor its last place.
+use Prim.Native.Nat.{_-_, _<_}
+use native.Mathlib.Omega.{arith}
+use mathlib.Core.Path.{sym, ap, _∙_}
+use borrow.Author.Needs.{needs}
+use lib.ListN.{length}
+use Rattle.store.specs.Layout.{entriesIn}
+use Rattle.waits.proofs.Last.{Lasts, last-none, last-before, last-more}
+use Rattle.steps.specs.Tables.{exactAt}
+use Rattle.steps.proofs.Filling.{Filling, fill-none, fill-more, fill-all}
+use Rattle.steps.proofs.Before.{stepAt, steps-table, steps-few, steps-kept}
+use Rattle.steps.proofs.processor_steps.Statement.{statement}
+use Rattle.steps.proofs.processor_steps.Tie as tie
+
+abbrev Inv-loop : tie.InvT-loop
+Inv-loop store times gaps out₀ none last₀ i₀ out last i =
+    Filling (stepAt store times gaps (length out₀)) out₀ out i × Lasts (entriesIn store (length out₀)) i last
+
+abbrev μ-loop : tie.MeasureT-loop
+μ-loop store times gaps out₀ none last₀ i₀ out last i = length out₀ - i
+
+returns : tie.Need-returns Inv-loop μ-loop
+returns c = sym (steps-kept _ _ _ _ (c .if1 .taken))
+
+cast-none : tie.Need-cast-none Inv-loop μ-loop
+cast-none c = search needs
+
+for-each-requires : tie.Need-for-each-requires Inv-loop μ-loop
+for-each-requires c κs = search needs
+
+loop-holds : tie.Need-loop-holds Inv-loop μ-loop
+loop-holds c = (fill-none _ _, rw (c .for-each .ensures) (last-none _ _))
+
+processor-at-requires : tie.Need-processor-at-requires Inv-loop μ-loop
+processor-at-requires c κs = search needs
+
+mul-exact-at : tie.Need-mul-exact-at Inv-loop μ-loop
+mul-exact-at c = search needs
+
+array-read-exact-at : tie.Need-array-read-exact-at Inv-loop μ-loop
+array-read-exact-at c = search needs
+
+exact-at-requires : tie.Need-exact-at-requires Inv-loop μ-loop
+exact-at-requires c κs = search needs
+
+mul-out : tie.Need-mul-out Inv-loop μ-loop
+mul-out c = search needs
+
+slice-write-out : tie.Need-slice-write-out Inv-loop μ-loop
+slice-write-out c = search needs
+
+cast-last : tie.Need-cast-last Inv-loop μ-loop
+cast-last c = search needs
+
+mul-last : tie.Need-mul-last Inv-loop μ-loop
+mul-last c = search needs
+
+array-write-last : tie.Need-array-write-last Inv-loop μ-loop
+array-write-last c = search needs
+
+add-i : tie.Need-add-i Inv-loop μ-loop
+add-i c = search needs
+
+loop-less : tie.Need-loop-less Inv-loop μ-loop
+loop-less c = search needs
+
+loop-again : tie.Need-loop-again Inv-loop μ-loop
+loop-again c =
+    let at = c .before .before .before .loop in
+    let i< : at .i < length (c .before .before .before .before .before .before .before .before .before .args .out .now) =
+    omega (arith, at .inv .0 .size, c .before .before .loop-test .taken) in
+    let on = c .before .processor-at .ensures in (
+      fill-more _ (at .inv .0) _ (c .before .before .loop-test .taken) (c .exact-at .ensures ∙ ap (exactAt _ _ _ _) (last-before _ _ (at .inv .1) i< on)),
+      last-more _ _ (at .inv .1) i< on,
+    )
+
+same-length : tie.Need-same-length Inv-loop μ-loop
+same-length c = c .before .loop .inv .0 .size
+
+returns-2 : tie.Need-returns-2 Inv-loop μ-loop
+returns-2 c =
+    fill-all _ (c .before .loop .inv .0) (c .loop-test .left) ∙ steps-table _ _ _ _
+    ∙ sym (steps-few _ _ _ _ (c .before .before .before .if1 .left))
+
+pub processor-steps-spec : {M : Type 1} → statement M
+processor-steps-spec =
+    tie.close
+    (tie.spec
+    Inv-loop
+    μ-loop
+    returns
+    cast-none
+    for-each-requires
+    loop-holds
+    processor-at-requires
+    mul-exact-at
+    array-read-exact-at
+    exact-at-requires
+    mul-out
+    slice-write-out
+    cast-last
+    mul-last
+    array-write-last
+    add-i
+    loop-less
+    loop-again
+    same-length
+    returns-2)

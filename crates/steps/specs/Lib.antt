@@ -1,0 +1,2 @@
+-- What the tables of a chain's steps hold.
+pub mod Tables

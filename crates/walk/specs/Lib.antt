@@ -1,0 +1,2 @@
+-- The walk along the steps.
+pub mod Way

@@ -1,0 +1,4 @@
+// The program: all of it is in the crate inquiry.
+fn main() {
+    inquiry::show_reasons();
+}
