@@ -3,9 +3,11 @@
  * ./library makes it for x86-64, as lib/libcantuvesh.a and lib/libcantuvesh.so beside
  * include/cantuvesh.h, and prints the line that compiles a program with it. It needs no set-up, keeps
  * nothing between calls, allocates nothing and may be called from several threads at once, each with
- * times and room of its own. To judge takes some 160,000 bytes of the calling thread's stack (155,064 as
- * reference/stack measured it: at 2,048 records, the written trace wanted, and with the registers that the
- * loader keeps where it binds a function at its first use), to merge some 90,000 (83,048).
+ * times, room and lists of its own. To judge takes some 160,000 bytes of the calling thread's stack
+ * (155,384 as reference/stack measured it: at 2,048 records, the written trace wanted, and with the
+ * registers that the loader keeps where it binds a function at its first use), to merge some 90,000
+ * (83,064), to list the messages some 190,000 (185,592), and a chain of 2,048 records some 370,000
+ * (360,928).
  */
 #ifndef CANTUVESH_H
 #define CANTUVESH_H
@@ -18,7 +20,7 @@
 extern "C" {
 #endif
 
-#define CANTUVESH_VERSION "0.6.0"
+#define CANTUVESH_VERSION "0.7.0"
 
 /* The sizes of a call. Each of two traces that are merged has the limits of a trace by itself. */
 #define CANTUVESH_TRACE_LIMIT 65536     /* the most bytes that a trace may have */
@@ -99,7 +101,8 @@ struct cantuvesh_answer {
 /* Refusals, the first that holds in this order: 1 to 4; then 5 to 12 line by line, the first bad
  * line deciding; then 17, the smallest processor deciding, at the line of its last listed record; then
  * the first receive in file order that calls for 13 or 14; then 15; then 16. Of a merging: 1; then 4 to
- * 12 of the first trace; then 4 to 12 of the second; then 18; then 16. No others are asked there.
+ * 12 of the first trace; then 4 to 12 of the second; then 18; then 16. No others are asked there. Of a list
+ * of messages, or a chain: those of judging up to 15; then, of a chain, 22; then 16.
  *
  *    1  the choice is neither 1 (strict) nor 2 (lenient), or the levels' switch is neither 0 (off)
  *       nor 1 (on)
@@ -118,10 +121,13 @@ struct cantuvesh_answer {
  *   14  the receive's length is above its send's
  *   15  no times exist: a ring of waits has latencies that add up to more than 0, or a time would be
  *       beyond the format's end
- *   16  the trace to be written, corrected or merged, is longer than the room
+ *   16  the trace to be written, corrected or merged, is longer than the room, or the list to be
+ *       filled is too short
  *   17  a processor with listed records has no tracing-level mark that counts, or its last one is not
  *       what is expected
  *   18  both of the traces to be merged hold a listed record of the same processor
+ *   22  there is no such listed record: the place is not below their number, or none stands on the asked
+ *       line
  */
 
 /* Judges one trace.
@@ -200,6 +206,71 @@ struct cantuvesh_merged cantuvesh_merge(
     const uint8_t *second, size_t second_len,
     uint32_t choice,
     uint8_t *room, size_t room_len);
+
+/* The answer of a call that fills a list. A refusal has its number, line and column, as an answer of judging
+ * has them, and `filled` 0; where a list is filled, `filled` stands alone. From 0.7.0 on.
+ */
+struct cantuvesh_filled {
+    uint64_t number; /* 0 filled, else the refusal above */
+    uint64_t line;   /* the refused line, counted from 1; 0 where no line is meant */
+    uint64_t column; /* the column of the field that decides, counted from 1; 0 where none is meant */
+    uint64_t filled; /* places of the list that are filled, from its first on */
+};
+
+/* A message: the places of its two records. Places count the listed records from 0 in file order, as those
+ * of the lent times do; lines that are passed over have none.
+ */
+struct cantuvesh_message {
+    uint64_t send;
+    uint64_t receive;
+};
+
+/* Lists the messages of one trace: one for each receive, in file order of the receives.
+ *
+ * trace, trace_len; latencies, latencies_len; asked
+ *     As cantuvesh_judge takes them. What that refuses from 1 to 15, and by 17, is refused here, too, with
+ *     the same line and column; no times are lent, so 2 means the table alone.
+ * list, list_len
+ *     Where the messages go: list[0] to list[filled - 1]. A list that is too short is refused (16); half of
+ *     CANTUVESH_TIMES are always enough, and without a message an empty list is. All later places are left
+ *     as they were, and every place if the call is refused.
+ *
+ * As above, any lengths may be lent, and no pointer may be NULL even where its length is 0; latencies and
+ * list must be aligned as their types are, and the list may overlap neither trace nor latencies.
+ */
+struct cantuvesh_filled cantuvesh_messages(
+    const uint8_t *trace, size_t trace_len,
+    const uint32_t *latencies, size_t latencies_len,
+    struct cantuvesh_asked asked,
+    struct cantuvesh_message *list, size_t list_len);
+
+/* Tells why one record's time moved: the chain of records from it back to one that is still at its original
+ * time.
+ *
+ * Each step goes to the record before on the same processor, if that has the same time, or from a receive to
+ * its send, if that plus the latency is its time. So the time of the last record in the chain and the
+ * latencies on the way add up to the time of the first, and no record occurs twice. It is a chain with the
+ * fewest steps, and of those, at the first step where two differ, the one that goes to the record before on
+ * the processor. A record that has not moved is alone in its chain.
+ *
+ * trace, trace_len; latencies, latencies_len; asked
+ *     As above.
+ * place
+ *     The place of the asked record. One that is not below the number of listed records is refused (22),
+ *     before 16.
+ * list, list_len
+ *     Where the chain goes, with both of its ends: list[0], which is `place`, to list[filled - 1]. A list
+ *     that is too short is refused (16); CANTUVESH_TIMES places are always enough. All later places are left
+ *     as they were, and every place if the call is refused.
+ *
+ * What is said above of lengths, pointers and overlaps holds here, too.
+ */
+struct cantuvesh_filled cantuvesh_chain(
+    const uint8_t *trace, size_t trace_len,
+    const uint32_t *latencies, size_t latencies_len,
+    struct cantuvesh_asked asked,
+    uint64_t place,
+    uint64_t *list, size_t list_len);
 
 #ifdef __cplusplus
 }

@@ -13,10 +13,12 @@ not gives the least later times at which all agree. The library behind it is pro
 ('corrected', 2, [10, 12, 15, 15, 20])
 
 Messages may be blocking, or posted and finished later: a send is the entry of -21 or -27, a receive the exit of -51, -52, -58,
--60 or -61. Nodes that write a file each have them merged before, by `merge`.
+-60 or -61. Nodes that write a file each have them merged before, by `merge`. `messages` lists the messages of a trace, and `chain`
+tells why a time moved.
 
 The library is looked for in the folder that CANTUVESH_LIBRARY names, else in the checkout's target/library. A call keeps nothing
-and may be made from several threads at once; to judge takes some 160,000 bytes of the calling thread's stack, to merge some 90,000.
+and may be made from several threads at once; to judge takes some 160,000 bytes of the calling thread's stack, to merge some 90,000,
+to list the messages some 190,000, and a chain up to some 370,000.
 """
 
 from __future__ import annotations
@@ -29,7 +31,7 @@ from dataclasses import dataclass
 from pathlib import Path
 from typing import Literal, Tuple, Union
 
-VERSION = "0.6.0"  # of the library: another one's call may be another
+VERSION = "0.7.0"  # of the library: another one's call may be another
 TRACE_LIMIT = 65_536  # the most bytes that a trace may have
 PROCESSORS = 64  # processors are 0 to 63
 LATENCIES = PROCESSORS * PROCESSORS  # the exact number of latencies in a table
@@ -61,9 +63,10 @@ _SENTENCES = {
     13: "the receive has no matching send",
     14: "the receive's length is above its send's",
     15: "no times exist: a ring of waits has latencies that add up to more than 0, or a time would be beyond the format's end",
-    16: "the trace to be written, corrected or merged, is longer than the room",
+    16: "the trace to be written, corrected or merged, is longer than the room, or the list to be filled is too short",
     17: "a processor with listed records has no tracing-level mark that counts, or its last one is not what is expected",
     18: "both of the traces to be merged hold a listed record of the same processor",
+    22: "there is no such listed record: the place is not below their number, or none stands on the asked line",
 }
 
 
@@ -94,7 +97,7 @@ class Accepted:
 class Refused(Exception):
     """The trace, or the whole call, is refused: `number` and `sentence` say why, `which`, `line` and `column` say where.
 
-    which   1 or 2, the trace that is meant where two were to be merged; 0 for both or the whole call, and where one was judged
+    which   1 or 2, the trace that is meant where two were to be merged; 0 for both or the whole call, and where there was one
     line    counted from 1 in its own trace; 0 where no line is meant
     column  where the field that decides begins in the line, counted from 1 in bytes; one past the line's last byte where a field
             or the LF is missing. The refusals 5 to 10 have it, and it is 0 for the others
@@ -161,8 +164,7 @@ def judge(
     """
     asked = _asked(choice, levels)
     text = _text(trace, "the trace")
-    entries = _lent(table, "the table", {"I"}, "contiguous unsigned numbers of 32 bits, as cantuvesh.table makes them")
-    latencies = (ctypes.c_uint32 * (entries.nbytes // 4)).from_buffer_copy(entries)
+    latencies = _latencies(table)
     times = (ctypes.c_int64 * TIMES)()
     room = (ctypes.c_char * (ROOM if written else 0))()
 
@@ -212,6 +214,68 @@ def merge(first: bytes | bytearray | memoryview, second: bytes | bytearray | mem
     return room[: merged.written]
 
 
+def messages(
+    trace: bytes | bytearray | memoryview,
+    table: array[int] | memoryview,
+    choice: Choice,
+    levels: Levels,
+) -> list[tuple[int, int]]:
+    """Lists the messages of one trace, one for each receive and in file order of the receives: the places of its send and of its
+    receive. Places count the listed records from 0 in file order, as the times of `judge` do.
+
+    The arguments are those of `judge`, and what that refuses raises the same Refused.
+
+    >>> trace = b"-4 -52 0.000009 1 0 3 2 8 1 0\\n-3 -21 0.000010 0 0 3 2 8 1 1\\n"
+    >>> messages(trace, table({}, default=5), "strict", levels="off")
+    [(1, 0)]
+    """
+    asked = _asked(choice, levels)
+    text = _text(trace, "the trace")
+    latencies = _latencies(table)
+    places = (_Message * (TIMES // 2))()  # each has two records
+
+    filled = _messages(text, len(text), latencies, len(latencies), asked, places, len(places))
+    if filled.number != 0:
+        raise Refused(filled.number, filled.line, filled.column)
+    return [(message.send, message.receive) for message in places[: filled.filled]]
+
+
+def chain(
+    trace: bytes | bytearray | memoryview,
+    table: array[int] | memoryview,
+    choice: Choice,
+    levels: Levels,
+    place: int,
+) -> list[int]:
+    """Tells why one record's time moved: the places of the records from it back to one that is still at its original time.
+
+    Each step goes to the record before on the same processor, if that has the same time, or from a receive to its send, if that
+    plus the latency is its time. So the time of the last record in the chain and the latencies on the way add up to the time of the
+    first. It is a chain with the fewest steps, and of those, at the first step where two differ, the one that goes to the record
+    before on the processor. A record that has not moved is alone in its chain.
+
+    place  the asked record: places count the listed records from 0 in file order, as the times of `judge` do. One that is not
+           below their number is refused (22)
+
+    The other arguments are those of `judge`, and what that refuses raises the same Refused.
+
+    >>> trace = b"-3 -21 0.000010 0 0 3 2 8 1 1\\n-4 -52 0.000009 1 0 3 2 8 1 0\\n-3 7 0.000011 1 0 0\\n"
+    >>> chain(trace, table({}, default=5), "strict", levels="off", place=2)
+    [2, 1, 0]
+    """
+    asked = _asked(choice, levels)
+    if not _is_whole(place, 2**64 - 1):
+        raise ValueError(f"the place should be a whole number of 64 bits from 0, and is {place!r}")
+    text = _text(trace, "the trace")
+    latencies = _latencies(table)
+    places = (ctypes.c_uint64 * TIMES)()
+
+    filled = _chain(text, len(text), latencies, len(latencies), asked, place, places, len(places))
+    if filled.number != 0:
+        raise Refused(filled.number, filled.line, filled.column)
+    return places[: filled.filled]
+
+
 def _numbered(choice: Choice) -> int:
     if choice not in _CHOICES:
         raise ValueError(f'the choice should be "strict" or "lenient", and is {choice!r}')
@@ -247,6 +311,12 @@ def _text(trace: object, what: str) -> bytes:
     return bytes(_lent(trace, what, {"B", "b", "c"}, "contiguous bytes"))
 
 
+def _latencies(table: object) -> ctypes.Array[ctypes.c_uint32]:
+    """A table's latencies, copied for the same reason."""
+    entries = _lent(table, "the table", {"I"}, "contiguous unsigned numbers of 32 bits, as cantuvesh.table makes them")
+    return (ctypes.c_uint32 * (entries.nbytes // 4)).from_buffer_copy(entries)
+
+
 def _lent(buffer: object, what: str, formats: set[str], kind: str) -> memoryview:
     """What a buffer lends, if its items are of one of these formats and stand side by side."""
     try:
@@ -280,6 +350,14 @@ class _Merged(ctypes.Structure):
     _fields_ = [(name, ctypes.c_uint64) for name in ("number", "which", "line", "column", "written")]
 
 
+class _Message(ctypes.Structure):
+    _fields_ = [(name, ctypes.c_uint64) for name in ("send", "receive")]
+
+
+class _Filled(ctypes.Structure):
+    _fields_ = [(name, ctypes.c_uint64) for name in ("number", "line", "column", "filled")]
+
+
 def _loaded() -> ctypes.CDLL:
     beside = Path(__file__).resolve().parent / "../../target/library"
     folder = Path(os.environ.get("CANTUVESH_LIBRARY") or beside).resolve()
@@ -309,4 +387,23 @@ _merge.argtypes = [
     *(ctypes.c_char_p, ctypes.c_size_t),  # the second
     ctypes.c_uint32,
     *(ctypes.POINTER(ctypes.c_char), ctypes.c_size_t),  # the room
+]
+
+_messages = _library.cantuvesh_messages
+_messages.restype = _Filled
+_messages.argtypes = [
+    *(ctypes.c_char_p, ctypes.c_size_t),  # the trace
+    *(ctypes.POINTER(ctypes.c_uint32), ctypes.c_size_t),  # the latencies
+    _Asked,
+    *(ctypes.POINTER(_Message), ctypes.c_size_t),  # the list
+]
+
+_chain = _library.cantuvesh_chain
+_chain.restype = _Filled
+_chain.argtypes = [
+    *(ctypes.c_char_p, ctypes.c_size_t),  # the trace
+    *(ctypes.POINTER(ctypes.c_uint32), ctypes.c_size_t),  # the latencies
+    _Asked,
+    ctypes.c_uint64,
+    *(ctypes.POINTER(ctypes.c_uint64), ctypes.c_size_t),  # the list
 ]

@@ -17,7 +17,7 @@ from dataclasses import FrozenInstanceError
 from pathlib import Path
 
 import cantuvesh
-from cantuvesh import Refused, judge, merge, table
+from cantuvesh import Refused, chain, judge, merge, messages, table
 
 SAMPLES = Path(__file__).resolve().parents[2] / "samples"
 TRACE_A = (SAMPLES / "a.picl").read_bytes()
@@ -27,6 +27,18 @@ POSTED = (SAMPLES / "posted.picl").read_bytes()
 ZEROS = table({}, default=0)
 FIVES = table({}, default=5)
 CORRECTED_A = array("q", [10, 12, 15, 15, 20])
+# A trace for each refusal of its bytes, with the number, the line and the column.
+BAD_TRACES = (
+    (b"\n" * 65_537, 4, 0, 0),
+    (b"0 0 0.000000 1 0 0\nx\n", 5, 2, 2),
+    (b"0 0 -0.000000 1 0 0\n", 6, 1, 5),
+    (b"-5 0 0.000000 1 0 0\n", 7, 1, 1),
+    (b"0 -62 0.000000 1 0 0\n", 8, 1, 3),
+    (b"0 0 0.000000 64 0 0\n", 9, 1, 14),
+    (b"-3 -21 0.000000 1 0 0\n", 10, 1, 21),
+    (b"0 0 0.000001 1 0 0\n0 0 0.000000 1 0 0\n", 11, 2, 0),
+    (b"0 0 0.000000 1 0 0\n" * 2_049, 12, 2_049, 0),
+)
 
 
 class Judging(unittest.TestCase):
@@ -239,17 +251,7 @@ class Merging(unittest.TestCase):
 
     def test_every_number_of_either_trace(self):
         """Not 1 and not 16: no other choice gets as far as the call, and there is always room."""
-        for bad, number, line, column in (
-            (b"\n" * 65_537, 4, 0, 0),
-            (b"0 0 0.000000 1 0 0\nx\n", 5, 2, 2),
-            (b"0 0 -0.000000 1 0 0\n", 6, 1, 5),
-            (b"-5 0 0.000000 1 0 0\n", 7, 1, 1),
-            (b"0 -62 0.000000 1 0 0\n", 8, 1, 3),
-            (b"0 0 0.000000 64 0 0\n", 9, 1, 14),
-            (b"-3 -21 0.000000 1 0 0\n", 10, 1, 21),
-            (b"0 0 0.000001 1 0 0\n0 0 0.000000 1 0 0\n", 11, 2, 0),
-            (b"0 0 0.000000 1 0 0\n" * 2_049, 12, 2_049, 0),
-        ):
+        for bad, number, line, column in BAD_TRACES:
             with self.subTest(number):
                 self.refused((number, 1, line, column), bad, self.GOOD)
                 self.refused((number, 2, line, column), self.GOOD, bad)
@@ -287,6 +289,120 @@ class Merging(unittest.TestCase):
                     merge(self.ONE, other, "strict")
 
 
+class Lists(unittest.TestCase):
+    """The messages of a trace and the chains of its records, and what is refused of both."""
+
+    FEWEST = (
+        b"-3 -21 0.000010 0 0 3 2 8 1 2\n"
+        b"-3 -21 0.000010 1 0 3 2 8 1 2\n"
+        b"-4 -52 0.000000 2 0 3 2 8 1 0\n"
+        b"-4 -52 0.000000 2 0 3 2 8 1 1\n"
+    )
+    # Three steps either way from the last record: by the two before it, or by its send and what is before that.
+    EQUAL = (
+        b"-3 -21 0.000010 0 0 3 2 8 1 1\n"
+        b"-3 -21 0.000010 2 0 3 2 8 1 3\n"
+        b"-4 -52 0.000000 1 0 3 2 8 1 0\n"
+        b"0 0 0.000000 1 0 0\n"
+        b"-4 -52 0.000000 3 0 3 2 8 1 2\n"
+        b"-3 -21 0.000000 3 0 3 2 8 1 1\n"
+        b"-4 -52 0.000000 1 0 3 2 8 1 3\n"
+    )
+
+    def chains(self, trace, latencies):
+        listed = judge(trace, latencies, "strict", "off").listed
+        return [chain(trace, latencies, "strict", "off", place) for place in range(listed)]
+
+    def test_trace_a(self):
+        self.assertEqual(messages(TRACE_A, FIVES, "strict", "off"), [(0, 2), (3, 4)])
+        self.assertEqual(self.chains(TRACE_A, FIVES), [[0], [1], [2, 0], [3, 2, 0], [4, 3, 2, 0]])
+        self.assertEqual(self.chains(TRACE_A, ZEROS), [[0], [1], [2, 0], [3], [4]])
+
+    def test_sends_that_stand_later_in_the_file(self):
+        self.assertEqual(messages(TRACE_B, ZEROS, "strict", "off"), [(3, 0), (1, 2)])
+        self.assertEqual(self.chains(TRACE_B, ZEROS), [[0, 3], [1, 0, 3], [2, 1, 0, 3], [3]])
+
+    def test_which_chain(self):
+        """One with the fewest steps; where they are as many, the processor's step before the send's."""
+        self.assertEqual(self.chains(self.FEWEST, ZEROS)[3], [3, 1])
+        self.assertEqual(self.chains(self.EQUAL, ZEROS)[6], [6, 3, 2, 0])
+
+    def test_an_unmoved_record_is_alone(self):
+        trace = b"-3 -21 0.000010 0 0 3 2 8 1 1\n0 0 0.000010 1 0 0\n-4 -52 0.000010 1 0 3 2 8 1 0\n"
+        self.assertEqual(self.chains(trace, ZEROS), [[0], [1], [2]])
+
+    def test_places_count_listed_records(self):
+        passed = b"-5 0 0.000000 0 0 0\n"
+        trace = b"".join(passed + line for line in TRACE_A.splitlines(True))
+        self.assertEqual(messages(trace, FIVES, "lenient", "off"), [(0, 2), (3, 4)])
+        self.assertEqual(chain(trace, FIVES, "lenient", "off", 4), [4, 3, 2, 0])
+
+    def test_the_longest_lists(self):
+        trace = b"-3 -21 0.000001 0 0 3 2 8 1 1\n" * 1_024 + b"-4 -52 0.000001 1 0 3 2 8 1 0\n" * 1_024
+        self.assertEqual(messages(trace, ZEROS, "strict", "off"), [(place, 1_024 + place) for place in range(1_024)])
+        trace = b"-3 -21 0.000001 0 0 3 2 8 1 0\n-4 -52 0.000001 0 0 3 2 8 1 0\n" + b"0 0 0.000001 0 0 0\n" * 2_046
+        self.assertEqual(chain(trace, FIVES, "strict", "off", 2_047), list(range(2_047, -1, -1)))
+
+    def test_no_messages(self):
+        for trace in (SILENT, b""):
+            self.assertEqual(messages(trace, FIVES, "strict", "off"), [])
+
+    def refused(self, expected, trace, latencies=ZEROS, choice="strict", levels="off"):
+        """By both calls, whatever the place is."""
+        for call in (messages, *(lambda *words, place=place: chain(*words, place) for place in (0, 2**64 - 1))):
+            with self.assertRaises(Refused) as raised:
+                call(trace, latencies, choice, levels)
+            refused = raised.exception
+            self.assertEqual((refused.number, refused.line, refused.column, refused.which), (*expected, 0))
+
+    def test_what_judging_refuses(self):
+        """Not 1: no other choice gets as far as the call."""
+        self.refused((2, 0, 0), b"", array("I", [0] * 4_095))
+        self.refused((3, 0, 0), b"", array("I", [1_000_001] * 4_096))
+        for trace, *expected in BAD_TRACES + (
+            (b"-4 -52 0.000000 1 0 3 2 8 1 0\n", 13, 1, 0),
+            (b"-4 -52 0.000000 1 0 3 2 8 1 0\n-3 -21 0.000000 0 0 3 2 7 1 1\n", 14, 1, 0),
+        ):
+            with self.subTest(expected):
+                self.refused(expected, trace)
+        self.refused((15, 0, 0), TRACE_B, table({(0, 1): 1}, default=0))
+        self.refused((17, 5, 0), TRACE_A, levels=(1, 1, 1))
+
+    def test_places_that_are_none(self):
+        for trace, place in ((TRACE_A, 5), (TRACE_A, 2**32), (TRACE_A, 2**64 - 1), (b"", 0)):
+            with self.subTest(place), self.assertRaises(Refused) as raised:
+                chain(trace, FIVES, "strict", "off", place)
+            refused = raised.exception
+            self.assertEqual((refused.number, refused.line, refused.column), (22, 0, 0))
+            self.assertRegex(str(refused), "^refused 22: there is no such listed record: the place is not below their number")
+        for other in (-1, 2**64, 1.0, "1", True, None):
+            with self.subTest(other), self.assertRaisesRegex(ValueError, "the place should be a whole number"):
+                chain(TRACE_A, FIVES, "strict", "off", other)
+
+    def test_nothing_has_a_default(self):
+        for words in ((TRACE_A,), (TRACE_A, FIVES), (TRACE_A, FIVES, "strict")):
+            with self.assertRaises(TypeError):
+                messages(*words)
+            with self.assertRaises(TypeError):
+                chain(*words, place=0)
+        with self.assertRaises(TypeError):
+            chain(TRACE_A, FIVES, "strict", "off")
+        for call in (messages, lambda *words: chain(*words, 0)):
+            with self.assertRaisesRegex(ValueError, '"strict" or "lenient"'):
+                call(TRACE_A, FIVES, 1, "off")
+            with self.assertRaisesRegex(ValueError, "the levels should be"):
+                call(TRACE_A, FIVES, "strict", None)
+
+    def test_whatever_lends_contiguous_bytes(self):
+        for call in (messages, lambda *words: chain(*words, 4)):
+            expected = call(TRACE_A, FIVES, "strict", "off")
+            self.assertEqual(call(bytearray(TRACE_A), memoryview(FIVES), "strict", "off"), expected)
+            with self.assertRaisesRegex(TypeError, "the trace should be contiguous bytes"):
+                call(TRACE_A.decode(), FIVES, "strict", "off")
+            with self.assertRaisesRegex(TypeError, "the table should be contiguous unsigned numbers"):
+                call(TRACE_A, list(FIVES), "strict", "off")
+
+
 class Answers(unittest.TestCase):
     def test_an_answer_has_the_places_of_c(self):
         answer = cantuvesh._Answer
@@ -299,6 +415,12 @@ class Answers(unittest.TestCase):
         names = ("number", "which", "line", "column", "written")
         self.assertEqual([getattr(merged, name).offset for name in names], list(range(0, 40, 8)))
         self.assertEqual(ctypes.sizeof(merged), 40)
+
+    def test_so_have_messages_and_lists(self):
+        for structure, names in ((cantuvesh._Message, ("send", "receive")), (cantuvesh._Filled, ("number", "line", "column", "filled"))):
+            size = 8 * len(names)
+            self.assertEqual([getattr(structure, name).offset for name in names], list(range(0, size, 8)))
+            self.assertEqual(ctypes.sizeof(structure), size)
 
 
 class Buffers(unittest.TestCase):

@@ -23,10 +23,12 @@
 //! Messages may be blocking, or posted and finished later: a send is the entry of -21 or -27, a receive
 //! the exit of -51, -52, -58, -60 or -61.
 //!
-//! Nodes that write a file each have them [merged](merge) before.
+//! Nodes that write a file each have them [merged](merge) before. Which records are a [message](messages),
+//! and [why a time moved](chain), is told of an accepted trace by its records' places.
 //!
 //! A call keeps nothing, allocates nothing, and may be made from several threads at once. To judge takes
-//! some 160,000 bytes of the calling thread's stack, to merge some 90,000.
+//! some 160,000 bytes of the calling thread's stack, to merge some 90,000, to list the messages some 190,000,
+//! and a chain up to some 370,000.
 
 #![deny(missing_docs)]
 #![deny(unsafe_op_in_unsafe_fn)]
@@ -38,6 +40,7 @@ pub mod raw;
 mod refusal;
 
 pub use latencies::Latencies;
+pub use raw::Message;
 pub use refusal::{Refusal, Refused, Which};
 
 use std::fmt;
@@ -238,5 +241,95 @@ pub fn merge(first: &[u8], second: &[u8], choice: Choice, room: &mut [u8]) -> Re
     match merged.number {
         0 => Ok(merged.written as usize),
         _ => Err(Refused::merging(merged)),
+    }
+}
+
+/// Lists the messages of one trace, and gives how many they are: they are `list[..many]`, one for each
+/// receive, in file order of the receives. Each has the places of its send and of its receive, which count
+/// the listed records from 0 in file order, as the times of [`judge`] do.
+///
+/// `trace`, `latencies` and `asked` are those of [`judge`]. Half as many places as [`TIMES`] are always
+/// enough for the list; without a message an empty one is.
+///
+/// All later places of the list are left as they were, and every place if the call is refused.
+///
+/// ```
+/// use cantuvesh::{Asked, Choice, Latencies, Levels, Message, TIMES, messages};
+///
+/// let trace = b"-3 7 0.000009 0 0 0
+/// -4 -52 0.000009 1 0 3 2 8 1 0
+/// -3 -21 0.000010 0 0 3 2 8 1 1
+/// ";
+/// let asked = Asked { choice: Choice::Strict, levels: Levels::Off };
+/// let mut list = [Message::default(); TIMES / 2];
+/// let many = messages(trace, &Latencies::everywhere(5), asked, &mut list)?;
+/// assert_eq!(list[..many], [Message { send: 2, receive: 1 }]);
+/// # Ok::<(), cantuvesh::Refused>(())
+/// ```
+///
+/// # Errors
+///
+/// What [`judge`] refuses is refused, for the same reason and at the same line and column; no times are lent
+/// here, so that 2 means the table alone. Then a list that is too short is (16).
+pub fn messages(
+    trace: &[u8],
+    latencies: &[u32],
+    asked: Asked,
+    list: &mut [Message],
+) -> Result<usize, Refused> {
+    filled(raw::LINKED.messages(trace, latencies, asked.into(), list))
+}
+
+/// Tells why one record's time moved, and gives how many records are in the chain: they are `list[..many]`,
+/// by their places, from the asked one back to one that is still at its original time.
+///
+/// Each step goes to the record before on the same processor, if that has the same time, or from a receive
+/// to its send, if that plus the latency is its time. So the time of the last record in the chain and the
+/// latencies on the way add up to the time of the first. It is a chain with the fewest steps, and of those,
+/// at the first step where two differ, the one that goes to the record before on the processor. A record that
+/// has not moved is alone in its chain.
+///
+/// `trace`, `latencies` and `asked` are those of [`judge`]; `place` counts the listed records from 0 in file
+/// order, as its times do. [`TIMES`] places are always enough for the list.
+///
+/// All later places of the list are left as they were, and every place if the call is refused.
+///
+/// ```
+/// use cantuvesh::{Asked, Choice, Latencies, Levels, Refusal, TIMES, chain};
+///
+/// let trace = b"-3 -21 0.000010 0 0 3 2 8 1 1
+/// -4 -52 0.000009 1 0 3 2 8 1 0
+/// -3 7 0.000011 1 0 0
+/// ";
+/// let latencies = Latencies::everywhere(5);
+/// let asked = Asked { choice: Choice::Strict, levels: Levels::Off };
+/// let mut list = [0; TIMES];
+/// let many = chain(trace, &latencies, asked, 2, &mut list)?;
+/// assert_eq!(list[..many], [2, 1, 0]); // at 15 by 15 before it, that is 10 and 5
+///
+/// let refused = chain(trace, &latencies, asked, 3, &mut list).unwrap_err();
+/// assert_eq!(refused.refusal, Refusal::NoSuchRecord);
+/// # Ok::<(), cantuvesh::Refused>(())
+/// ```
+///
+/// # Errors
+///
+/// What [`judge`] refuses is refused, as by [`messages`]. Then a place that is not below the number of listed
+/// records is (22), and then a list that is too short (16).
+pub fn chain(
+    trace: &[u8],
+    latencies: &[u32],
+    asked: Asked,
+    place: u64,
+    list: &mut [u64],
+) -> Result<usize, Refused> {
+    filled(raw::LINKED.chain(trace, latencies, asked.into(), place, list))
+}
+
+/// How many places of a list are filled.
+fn filled(filled: raw::Filled) -> Result<usize, Refused> {
+    match filled.number {
+        0 => Ok(filled.filled as usize),
+        _ => Err(Refused::filling(filled)),
     }
 }

@@ -1,4 +1,4 @@
-//! The C calls as they are: the structs and the two functions of `include/cantuvesh.h`, for any numbers and
+//! The C calls as they are: the structs and the four functions of `include/cantuvesh.h`, for any numbers and
 //! any lengths. This is the one place where the boundary is declared in Rust.
 
 use std::mem;
@@ -62,6 +62,31 @@ pub struct Merged {
     pub written: u64,
 }
 
+/// `struct cantuvesh_message`: the places of a message's two records. Places count the listed records from 0
+/// in file order.
+#[repr(C)]
+#[derive(Clone, Copy, Debug, Default, PartialEq, Eq, Hash)]
+pub struct Message {
+    /// The place of the send.
+    pub send: u64,
+    /// The place of the receive.
+    pub receive: u64,
+}
+
+/// `struct cantuvesh_filled`: a refusal has all but `filled`, a list that is filled has that alone.
+#[repr(C)]
+#[derive(Clone, Copy, Debug, PartialEq, Eq)]
+pub struct Filled {
+    /// 0 filled, else the refusal.
+    pub number: u64,
+    /// The refused line, counted from 1; 0 where no line is meant.
+    pub line: u64,
+    /// The column of the field that decides a refusal from 5 to 10, counted from 1 in bytes; 0 for all else.
+    pub column: u64,
+    /// Places of the list that are filled, from its first on.
+    pub filled: u64,
+}
+
 type Judge = unsafe extern "C" fn(
     trace: *const u8,
     trace_len: usize,
@@ -85,16 +110,45 @@ type Merge = unsafe extern "C" fn(
     room_len: usize,
 ) -> Merged;
 
-// Only where they are: their parameters stand in `Judge` and `Merge`.
+type Messages = unsafe extern "C" fn(
+    trace: *const u8,
+    trace_len: usize,
+    latencies: *const u32,
+    latencies_len: usize,
+    asked: Asked,
+    list: *mut Message,
+    list_len: usize,
+) -> Filled;
+
+type Chain = unsafe extern "C" fn(
+    trace: *const u8,
+    trace_len: usize,
+    latencies: *const u32,
+    latencies_len: usize,
+    asked: Asked,
+    place: u64,
+    list: *mut u64,
+    list_len: usize,
+) -> Filled;
+
+// Only where they are: their parameters stand in `Judge`, `Merge`, `Messages` and `Chain`.
 unsafe extern "C" {
     fn cantuvesh_judge();
     fn cantuvesh_merge();
+    fn cantuvesh_messages();
+    fn cantuvesh_chain();
 }
 
 /// The library that this package is linked with.
 // SAFETY: these are the functions of `include/cantuvesh.h`.
-pub const LINKED: Library =
-    unsafe { Library { judge: judge_at(cantuvesh_judge), merge: merge_at(cantuvesh_merge) } };
+pub const LINKED: Library = unsafe {
+    Library {
+        judge: judge_at(cantuvesh_judge),
+        merge: merge_at(cantuvesh_merge),
+        messages: messages_at(cantuvesh_messages),
+        chain: chain_at(cantuvesh_chain),
+    }
+};
 
 /// # Safety
 ///
@@ -112,11 +166,29 @@ const unsafe fn merge_at(function: unsafe extern "C" fn()) -> Merge {
     unsafe { mem::transmute::<unsafe extern "C" fn(), Merge>(function) }
 }
 
+/// # Safety
+///
+/// The function is declared in C as `cantuvesh_messages` is in `include/cantuvesh.h`.
+const unsafe fn messages_at(function: unsafe extern "C" fn()) -> Messages {
+    // SAFETY: the caller knows that the function has these parameters.
+    unsafe { mem::transmute::<unsafe extern "C" fn(), Messages>(function) }
+}
+
+/// # Safety
+///
+/// The function is declared in C as `cantuvesh_chain` is in `include/cantuvesh.h`.
+const unsafe fn chain_at(function: unsafe extern "C" fn()) -> Chain {
+    // SAFETY: the caller knows that the function has these parameters.
+    unsafe { mem::transmute::<unsafe extern "C" fn(), Chain>(function) }
+}
+
 /// A library, by its functions.
 #[derive(Clone, Copy, Debug)]
 pub struct Library {
     judge: Judge,
     merge: Merge,
+    messages: Messages,
+    chain: Chain,
 }
 
 impl Library {
@@ -141,6 +213,28 @@ impl Library {
     pub const unsafe fn merging_by(self, function: unsafe extern "C" fn()) -> Library {
         // SAFETY: the caller knows that the function has these parameters.
         Library { merge: unsafe { merge_at(function) }, ..self }
+    }
+
+    /// The same, but it lists messages by this function.
+    ///
+    /// # Safety
+    ///
+    /// The function is declared in C as `cantuvesh_messages` is in `include/cantuvesh.h`, and does what is
+    /// said there.
+    pub const unsafe fn messages_by(self, function: unsafe extern "C" fn()) -> Library {
+        // SAFETY: the caller knows that the function has these parameters.
+        Library { messages: unsafe { messages_at(function) }, ..self }
+    }
+
+    /// The same, but it gives chains by this function.
+    ///
+    /// # Safety
+    ///
+    /// The function is declared in C as `cantuvesh_chain` is in `include/cantuvesh.h`, and does what is said
+    /// there.
+    pub const unsafe fn chain_by(self, function: unsafe extern "C" fn()) -> Library {
+        // SAFETY: the caller knows that the function has these parameters.
+        Library { chain: unsafe { chain_at(function) }, ..self }
     }
 
     /// Judges one trace, and gives the ten numbers as they are. `include/cantuvesh.h` says what every
@@ -186,6 +280,50 @@ impl Library {
                 choice,
                 room.as_mut_ptr(),
                 room.len(),
+            )
+        }
+    }
+
+    /// Lists the messages of one trace, and gives the four numbers as they are. `include/cantuvesh.h` says
+    /// what every argument means.
+    pub fn messages(self, trace: &[u8], latencies: &[u32], asked: Asked, list: &mut [Message]) -> Filled {
+        // SAFETY: each pointer comes with the length of its own slice, the list is lent alone for the time of
+        // the call, and the function takes slices of any length.
+        unsafe {
+            (self.messages)(
+                trace.as_ptr(),
+                trace.len(),
+                latencies.as_ptr(),
+                latencies.len(),
+                asked,
+                list.as_mut_ptr(),
+                list.len(),
+            )
+        }
+    }
+
+    /// Gives the chain of one record, and the four numbers as they are. `include/cantuvesh.h` says what every
+    /// argument means.
+    pub fn chain(
+        self,
+        trace: &[u8],
+        latencies: &[u32],
+        asked: Asked,
+        place: u64,
+        list: &mut [u64],
+    ) -> Filled {
+        // SAFETY: each pointer comes with the length of its own slice, the list is lent alone for the time of
+        // the call, and the function takes slices of any length.
+        unsafe {
+            (self.chain)(
+                trace.as_ptr(),
+                trace.len(),
+                latencies.as_ptr(),
+                latencies.len(),
+                asked,
+                place,
+                list.as_mut_ptr(),
+                list.len(),
             )
         }
     }

@@ -50,9 +50,10 @@ refusals! {
     NoSend = 13 "the receive has no matching send"
     LongReceive = 14 "the receive's length is above its send's"
     NoTimes = 15 "no times exist: a ring of waits has latencies that add up to more than 0, or a time would be beyond the format's end"
-    RoomTooShort = 16 "the trace to be written, corrected or merged, is longer than the room"
+    RoomTooShort = 16 "the trace to be written, corrected or merged, is longer than the room, or the list to be filled is too short"
     Levels = 17 "a processor with listed records has no tracing-level mark that counts, or its last one is not what is expected"
     SharedProcessor = 18 "both of the traces to be merged hold a listed record of the same processor"
+    NoSuchRecord = 22 "there is no such listed record: the place is not below their number, or none stands on the asked line"
 }
 
 impl Refusal {
@@ -105,7 +106,7 @@ pub struct Refused {
     /// The reason.
     pub refusal: Refusal,
     /// The trace that it means, where two were to be merged; none where both or the whole call are meant, and
-    /// where one was judged.
+    /// where there was one.
     pub which: Option<Which>,
     /// The line that it means, counted from 1 in its own trace; none where no line is meant.
     pub line: Option<NonZero<u64>>,
@@ -121,6 +122,10 @@ impl Refused {
 
     pub(crate) fn merging(raw::Merged { number, which, line, column, .. }: raw::Merged) -> Refused {
         Refused::of(number, which, line, column)
+    }
+
+    pub(crate) fn filling(raw::Filled { number, line, column, .. }: raw::Filled) -> Refused {
+        Refused::of(number, 0, line, column)
     }
 
     /// By its numbers.
