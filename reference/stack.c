@@ -1,6 +1,6 @@
 /* How much stack one call uses: a thread whose stack was painted beforehand makes the call, and the deepest byte that lost its paint
- * tells. The difference to a thread that does nothing is printed, in bytes: of judging the longest chain, written too, and of merging
- * two traces of 2,048 records. reference/stack compiles and runs it.
+ * tells. The difference to a thread that does nothing is printed, in bytes: of judging the longest chain, written too, of merging two
+ * traces of 2,048 records, and of listing the messages of that chain and the chain itself. reference/stack compiles and runs it.
  */
 #include "cantuvesh.h"
 
@@ -25,6 +25,10 @@ static size_t node_len[2];
 static uint8_t merged_room[2 * CANTUVESH_TRACE_LIMIT];
 static struct cantuvesh_merged merged;
 
+static struct cantuvesh_message messages[CANTUVESH_TIMES / 2];
+static uint64_t links[CANTUVESH_TIMES];
+static struct cantuvesh_filled listed, linked;
+
 static void *judge(void *unused)
 {
     answer = cantuvesh_judge((const uint8_t *)trace, trace_len, latencies, CANTUVESH_LATENCIES, asked,
@@ -36,6 +40,20 @@ static void *merge(void *unused)
 {
     merged = cantuvesh_merge((const uint8_t *)nodes[0], node_len[0], (const uint8_t *)nodes[1], node_len[1],
                              CANTUVESH_STRICT, merged_room, sizeof merged_room);
+    return unused;
+}
+
+static void *list_messages(void *unused)
+{
+    listed = cantuvesh_messages((const uint8_t *)trace, trace_len, latencies, CANTUVESH_LATENCIES, asked,
+                                messages, CANTUVESH_TIMES / 2);
+    return unused;
+}
+
+static void *list_chain(void *unused)
+{
+    linked = cantuvesh_chain((const uint8_t *)trace, trace_len, latencies, CANTUVESH_LATENCIES, asked,
+                             CANTUVESH_TIMES - 1, links, CANTUVESH_TIMES);
     return unused;
 }
 
@@ -90,10 +108,16 @@ int main(void)
     size_t idle = depth_of(nothing);
     size_t judging = depth_of(judge);
     size_t merging = depth_of(merge);
+    size_t listing = depth_of(list_messages);
+    size_t linking = depth_of(list_chain);
     printf("number %" PRIu64 ", listed %" PRIu64 ", rounds %" PRIu64 ", written %" PRIu64 "\n",
            answer.number, answer.listed, answer.rounds, answer.written);
     printf("%zu bytes of stack\n", judging - idle);
     printf("merging: number %" PRIu64 ", written %" PRIu64 "\n", merged.number, merged.written);
     printf("%zu bytes of stack\n", merging - idle);
+    printf("messages: number %" PRIu64 ", filled %" PRIu64 "\n", listed.number, listed.filled);
+    printf("%zu bytes of stack\n", listing - idle);
+    printf("a chain: number %" PRIu64 ", filled %" PRIu64 "\n", linked.number, linked.filled);
+    printf("%zu bytes of stack\n", linking - idle);
     return 0;
 }

@@ -4,13 +4,16 @@
 //! measured in the same turns.
 
 mod calls;
+mod lister;
+mod lists;
 mod merger;
 mod merges;
 mod programs;
 mod sample;
 mod turns;
 
-use calls::{Calls, Judge, judges};
+use calls::{Calls, Judge, archive, judges};
+use lists::{Lister, Lists, Wish, listers};
 use merges::{Merge, Merges, mergers};
 use reference::Answer;
 use reference::generator::workload::{self, Nodes, Workload};
@@ -44,6 +47,9 @@ fn measure_all() -> Result<(), String> {
     }
     for nodes in workload::merged() {
         rows.push(measure_merging(&nodes, time)?);
+    }
+    for (workload, wish) in workload::lists().iter().zip([Wish::Messages, Wish::ChainOfLast]) {
+        rows.push(measure_list(workload, wish, time)?);
     }
     if let Some(program) = arguments.get(1) {
         let before = arguments.get(2).map(Path::new);
@@ -83,5 +89,14 @@ fn measure_merging(nodes: &Nodes, time: Duration) -> Result<Row, String> {
         nodes.second.len(),
         merges.expected.written
     );
+    Ok(row)
+}
+
+fn measure_list(workload: &Workload, wish: Wish, time: Duration) -> Result<Row, String> {
+    let mut lists = Lists::of(workload, wish)?;
+    let sample = |&lister: &Lister| -> Result<f64, Infallible> { Ok(lists.sample(lister)) };
+    let Ok(row) = Row::measured(workload.name, &listers(), time, sample);
+    row.print();
+    println!("    {} bytes, filled {}", workload.trace.len(), lists.expected.filled);
     Ok(row)
 }

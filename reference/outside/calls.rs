@@ -3,7 +3,7 @@
 //! All of them run on the same buffers, which are not cleared between calls.
 
 #[path = "archive.rs"]
-mod archive;
+pub mod archive;
 #[cfg(feature = "before")]
 #[cfg_attr(not(feature = "before-column"), path = "before.rs")]
 #[cfg_attr(all(feature = "before-column", not(feature = "before-levels")), path = "before_column.rs")]

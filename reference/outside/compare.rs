@@ -1,12 +1,15 @@
-//! Holds the library against the reference: `compare [CASES [SEED]]` on so many cases and on a quarter as
-//! many pairs of traces to merge, `compare --pairs [PAIRS [SEED]]` on pairs alone.
+//! Holds the library against the reference: `compare [CASES [SEED]]` on so many cases, on a quarter as many
+//! pairs of traces to merge, and on as many traces whose messages and chains are asked for; `compare --pairs
+//! [PAIRS [SEED]]` on pairs alone, `compare --lists [TRACES [SEED]]` on such traces alone.
 //!
-//! Case i has the seed SEED + i, and so has pair i: `compare 1 N` runs the case of seed N again, and
-//! `compare --pairs 1 N` the pair.
+//! Case i has the seed SEED + i, and so have pair i and trace i: `compare 1 N` runs the case of seed N again,
+//! `compare --pairs 1 N` the pair, and `compare --lists 1 N` the trace.
 
 mod archive;
 mod cases;
 mod held;
+mod inquiries;
+mod lister;
 mod merger;
 mod pairs;
 
@@ -14,8 +17,11 @@ use std::env;
 use std::process::ExitCode;
 
 fn main() -> ExitCode {
-    let Some(Asked { cases, pairs, seed }) = Asked::of(env::args().skip(1).collect()) else {
-        eprintln!("usage: compare [CASES [SEED]]\n       compare --pairs [PAIRS [SEED]]");
+    let Some(Asked { cases, pairs, inquiries, seed }) = Asked::of(env::args().skip(1).collect()) else {
+        eprintln!(
+            "usage: compare [CASES [SEED]]\n       compare --pairs [PAIRS [SEED]]\n       \
+             compare --lists [TRACES [SEED]]"
+        );
         return ExitCode::from(2);
     };
     let mut failed = 0;
@@ -25,7 +31,10 @@ fn main() -> ExitCode {
     if pairs > 0 {
         failed += pairs::hold(pairs, seed);
     }
-    println!("{} passed, {failed} failed", (cases + pairs).saturating_sub(failed));
+    if inquiries > 0 {
+        failed += inquiries::hold(inquiries, seed);
+    }
+    println!("{} passed, {failed} failed", (cases + pairs + inquiries).saturating_sub(failed));
     if failed == 0 { ExitCode::SUCCESS } else { ExitCode::FAILURE }
 }
 
@@ -33,26 +42,34 @@ fn main() -> ExitCode {
 struct Asked {
     cases: u64,
     pairs: u64,
+    inquiries: u64,
     seed: u64,
 }
 
 impl Asked {
-    fn of(mut arguments: Vec<String>) -> Option<Asked> {
-        let alone = arguments.first().is_some_and(|first| first == "--pairs");
-        arguments.drain(..usize::from(alone));
-        let numbers: Result<Vec<u64>, _> = arguments.iter().map(|argument| argument.parse()).collect();
+    fn of(arguments: Vec<String>) -> Option<Asked> {
+        let (alone, numbers) = match arguments.split_first() {
+            Some((first, numbers)) if first.starts_with("--") => (Some(first.as_str()), numbers),
+            _ => (None, &arguments[..]),
+        };
+        let numbers: Result<Vec<u64>, _> = numbers.iter().map(|argument| argument.parse()).collect();
         let (many, seed) = match numbers.ok()?[..] {
             [] => (None, 0),
             [many] => (Some(many), 0),
             [many, seed] => (Some(many), seed),
             _ => return None,
         };
-        Some(match alone {
-            true => Asked { cases: 0, pairs: many.unwrap_or(pairs::PAIRS), seed },
-            false => {
+        let none = Asked { cases: 0, pairs: 0, inquiries: 0, seed };
+        match alone {
+            Some("--pairs") => Some(Asked { pairs: many.unwrap_or(pairs::PAIRS), ..none }),
+            Some("--lists") => Some(Asked { inquiries: many.unwrap_or(inquiries::INQUIRIES), ..none }),
+            Some(_) => None,
+            None => {
                 let cases = many.unwrap_or(cases::CASES);
-                Asked { cases, pairs: cases * pairs::PAIRS / cases::CASES, seed }
+                let pairs = cases * pairs::PAIRS / cases::CASES;
+                let inquiries = cases * inquiries::INQUIRIES / cases::CASES;
+                Some(Asked { cases, pairs, inquiries, seed })
             }
-        })
+        }
     }
 }

@@ -11,12 +11,13 @@ pub struct Settled {
 }
 
 /// What a record's time may not be below.
-struct Floor {
-    original: i64,
+#[derive(Debug)]
+pub struct Floor {
+    pub original: i64,
     /// The place of the record before it on its processor.
-    before: Option<usize>,
+    pub before: Option<usize>,
     /// For a receive, the place of its send, and the latency.
-    send: Option<(usize, i64)>,
+    pub send: Option<(usize, i64)>,
 }
 
 /// The first round that the next one repeats. None if a time passes the limit, or if the rounds do
@@ -37,7 +38,8 @@ pub fn settle(records: &[Record], send_of: &[Option<usize>], latencies: &[u32]) 
     None
 }
 
-fn floors(records: &[Record], send_of: &[Option<usize>], latencies: &[u32]) -> Vec<Floor> {
+/// Those of all records.
+pub fn floors(records: &[Record], send_of: &[Option<usize>], latencies: &[u32]) -> Vec<Floor> {
     let mut last = [None; PROCESSORS];
     let mut floors = Vec::with_capacity(records.len());
     for (place, record) in records.iter().enumerate() {

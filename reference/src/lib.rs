@@ -1,14 +1,16 @@
-//! Document 01 and requests 1 to 6 of document 02 in plain Rust: one trace in; verdict, counts,
-//! corrected times and the corrected trace out. Or two traces in, and one out.
+//! Document 01 and requests 1 to 7 of document 02 in plain Rust: one trace in; verdict, counts, corrected
+//! times and the corrected trace out; or its messages, or why a time moved. Or two traces in, and one out.
 //!
 //! Written from the papers alone, to be held against the proved library (`outside/compare.rs`) and
 //! measured beside it (`outside/bench.rs`). The modules follow the papers' order: [`form`],
 //! [`field`] and [`line`] are "One line, one record" and requests 2 and 5, [`trace`] reads line after line,
 //! [`levels`] is request 1, [`message`] and [`clock`] are "Matching and the clock condition" and request 4,
-//! [`report`] is what the program prints, and [`merge`] is request 6. Request 3 asks for speed alone.
+//! [`report`] is what the program prints, [`merge`] is request 6, and [`list`] and [`chain`] are request 7.
+//! Request 3 asks for speed alone.
 
 #![forbid(unsafe_code)]
 
+pub mod chain;
 pub mod clock;
 pub mod deciding;
 pub mod field;
@@ -17,6 +19,8 @@ pub mod generator;
 mod lent;
 pub mod levels;
 pub mod line;
+pub mod list;
+pub mod list_trial;
 pub mod merge;
 pub mod merge_trial;
 pub mod message;
@@ -115,7 +119,15 @@ impl Choice {
     }
 }
 
-/// What one call is given: a trace, a table and what is asked, and what it may write to.
+/// What every call on one trace is given: the trace, a table and what is asked.
+#[derive(Clone, Copy)]
+pub struct Question<'a> {
+    pub trace: &'a [u8],
+    pub latencies: &'a [u32],
+    pub asked: Asked,
+}
+
+/// What judging is given: a trace, a table and what is asked, and what it may write to.
 pub struct Inputs<'a> {
     pub trace: &'a [u8],
     pub latencies: &'a [u32],
@@ -143,10 +155,19 @@ pub fn judge(call: Inputs) -> Answer {
     })
 }
 
-fn accept(call: Inputs) -> Result<Answer, Refusal> {
-    let Inputs { trace, latencies, asked, times, wanted, room } = call;
+/// What a trace comes to that is refused by none of 1 to 15 and 17.
+pub struct Solved {
+    pub records: Vec<trace::Record>,
+    pub passed: u64,
+    pub messages: message::Messages,
+    pub settled: clock::Settled,
+}
+
+/// Reads a trace, pairs its messages and settles its times. The times that are lent are so many.
+pub fn solve(question: Question, times: usize) -> Result<Solved, Refusal> {
+    let Question { trace, latencies, asked } = question;
     let (choice, expected) = asked.heard().ok_or(Refusal::of_all(refusal::ASKED))?;
-    if latencies.len() != LATENCIES || times.len() != MAX_RECORDS {
+    if latencies.len() != LATENCIES || times != MAX_RECORDS {
         return Err(Refusal::of_all(refusal::LENGTH));
     }
     if latencies.iter().any(|&latency| latency > MAX_LATENCY) {
@@ -157,9 +178,18 @@ fn accept(call: Inputs) -> Result<Answer, Refusal> {
     if let Some(expected) = expected {
         levels::check(&records, expected)?;
     }
-    let message::Messages { send_of, matched, unreceived } = message::pair(&records)?;
-    let settled = clock::settle(&records, &send_of, latencies);
-    let clock::Settled { times: corrected, rounds } = settled.ok_or(Refusal::of_all(refusal::NO_TIMES))?;
+    let messages = message::pair(&records)?;
+    let settled = clock::settle(&records, &messages.send_of, latencies);
+    let settled = settled.ok_or(Refusal::of_all(refusal::NO_TIMES))?;
+    Ok(Solved { records, passed, messages, settled })
+}
+
+fn accept(call: Inputs) -> Result<Answer, Refusal> {
+    let Inputs { trace, latencies, asked, times, wanted, room } = call;
+    let Solved { records, passed, messages, settled } =
+        solve(Question { trace, latencies, asked }, times.len())?;
+    let message::Messages { matched, unreceived, .. } = messages;
+    let clock::Settled { times: corrected, rounds } = settled;
 
     let mut written = 0;
     if wanted {

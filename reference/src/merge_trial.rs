@@ -7,6 +7,7 @@ use crate::lent::{Lent, pattern};
 use crate::line::{self, Line};
 use crate::merge::{self, Merged};
 use crate::refusal::{ASKED, BYTES, RECORDS, ROOM, SHARED};
+use crate::trial::below_floor;
 use crate::{Choice, MAX_BYTES, MAX_RECORDS, trace};
 use std::collections::{BTreeMap, BTreeSet};
 use std::fmt;
@@ -170,11 +171,7 @@ impl Tally {
             let floor = if name.starts_with("many") { 50 } else { 500 };
             (name.to_string(), times, floor)
         });
-        numbers
-            .chain(shown)
-            .filter(|&(_, times, floor)| times < floor)
-            .map(|(name, times, floor)| format!("{name} came up {times} times, {floor} are asked"))
-            .collect()
+        below_floor(numbers.chain(shown))
     }
 }
 

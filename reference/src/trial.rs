@@ -154,15 +154,16 @@ impl Tally {
         let good_or_nearly = [("quick", self.quick), ("one byte off", self.one_byte_off)]
             .map(|(name, times)| (name.to_string(), times, 20_000));
         let columns = self.columns().map(|(meant, times)| (format!("column of {meant}"), times, 50));
-        numbers
-            .chain(verdicts)
-            .chain(kinds_of_accepted)
-            .chain(good_or_nearly)
-            .chain(columns)
-            .filter(|&(_, times, floor)| times < floor)
-            .map(|(name, times, floor)| format!("{name} came up {times} times, {floor} are asked"))
-            .collect()
+        below_floor(numbers.chain(verdicts).chain(kinds_of_accepted).chain(good_or_nearly).chain(columns))
     }
+}
+
+/// Of what came up so many times, what did so less often than it should.
+pub fn below_floor(counted: impl Iterator<Item = (String, u64, u64)>) -> Vec<String> {
+    counted
+        .filter(|&(_, times, floor)| times < floor)
+        .map(|(name, times, floor)| format!("{name} came up {times} times, {floor} are asked"))
+        .collect()
 }
 
 impl fmt::Display for Tally {

@@ -1,15 +1,18 @@
 //! Traces, tables and calls from a seed: the same seed gives the same case, until the generator changes.
 //!
-//! [`run`] makes sound runs and looks at them through wrong clocks, [`shape`] makes chains, rings
-//! and what else has a known shape, [`nonblocking`] gives messages of both to calls that do not wait,
-//! [`damage`] spoils them, [`stroke`] by one byte alone, [`fault`] spoils chosen fields of one line, [`near`]
-//! and [`soup`] put lines together from good and bad parts, [`limit`] goes to the ends of every size and
+//! [`run`] makes sound runs and looks at them through wrong clocks, [`shape`] makes chains, rings and what
+//! else has a known shape, [`nonblocking`] gives messages of both to calls that do not wait, [`damage`]
+//! spoils them, [`stroke`] by one byte alone, [`fault`] spoils chosen fields of one line, [`near`] and
+//! [`soup`] put lines together from good and bad parts, [`limit`] goes to the ends of every size and
 //! number, [`level`] expects tracing levels and marks them, and [`call`] is the rest of a call. [`pair`]
-//! makes two traces of them, to be merged. The benchmark's traces are in [`workload`], and stay as they are.
+//! makes two traces of them, to be merged, and [`inquiry`] asks for messages and chains, often of a [`web`]
+//! of messages in which times have many causes. The benchmark's traces are in [`workload`], and stay as
+//! they are.
 
 mod call;
 mod damage;
 mod fault;
+pub mod inquiry;
 mod level;
 mod limit;
 mod near;
@@ -21,6 +24,7 @@ mod run;
 pub mod shape;
 mod soup;
 pub mod stroke;
+mod web;
 pub mod workload;
 
 use crate::{Answer, Asked, Inputs, LATENCIES, MAX_LATENCY, MAX_RECORDS, judge};

@@ -165,7 +165,7 @@ fn through_clocks(random: &mut Random, mut records: Vec<Record>) -> Vec<Record> 
 }
 
 /// Any order of the file that keeps each processor's own.
-fn in_file_order(random: &mut Random, mut records: Vec<Record>) -> Vec<Record> {
+pub(super) fn in_file_order(random: &mut Random, mut records: Vec<Record>) -> Vec<Record> {
     match random.below(5) {
         0 => {}
         1 => records.sort_by_key(|record| record.time),

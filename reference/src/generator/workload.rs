@@ -24,7 +24,7 @@ pub struct Nodes {
 }
 
 /// Ten processors keep a line of a message at 30 bytes, so that 2,048 of them fit.
-const ROW: usize = 10;
+pub const ROW: usize = 10;
 const LATENCY: u32 = 20;
 const LEVELS: Levels = Levels { picl: 4, user: 4, trace: 0 };
 
@@ -44,7 +44,7 @@ pub fn all() -> Vec<Workload> {
         Workload { asked: Asked::expecting(2, LEVELS), ..of("the same, marks as expected", marks, LATENCY) },
         of("neighbours, clocks off by a second", trace_of(&off), LATENCY),
         Workload { wanted: true, ..of("the same, the written trace wanted", trace_of(&off), LATENCY) },
-        of("a chain of 2,000 rounds", trace_of(&chain(2_001, ROW)), 1),
+        of("a chain of 2,000 rounds", trace_of(&chain(LINKS, ROW)), 1),
         of("65,536 bytes passed over", passed_over(), 0),
         of("a hundred types on one pair", trace_of(&many_types(MAX_RECORDS, 0..100)), 5),
         of("a hundred negative types on one pair", trace_of(&many_types(MAX_RECORDS, -100..0)), 5),
@@ -60,6 +60,24 @@ pub fn merged() -> Vec<Nodes> {
         Nodes { name: "two of lines passed over, merged", first: ours, second: theirs, choice: 2 },
     ]
 }
+
+/// A trace whose messages are listed, and one whose last record has a chain of 2,000 steps.
+pub fn lists() -> [Workload; 2] {
+    let of = |name, records: &[Record], latency| {
+        let (trace, latencies) = (trace_of(records), flat_table(latency));
+        Workload { name, asked: Asked::with_levels_off(2), trace, latencies, wanted: false }
+    };
+    // Others before the chain, of a processor that is not in it, so that there are as many as there may be.
+    let others = (0..MAX_RECORDS - LINKS).map(|_| Record::local(0, 0, 0, ROW as i64));
+    let chained: Vec<Record> = others.chain(chain(LINKS, ROW)).collect();
+    [
+        of("1,024 messages of 2,048 records", &many_types(MAX_RECORDS, 0..100), 5),
+        of("a chain of 2,000 steps", &chained, 1),
+    ]
+}
+
+/// The records of that chain: one more than its steps.
+const LINKS: usize = 2_001;
 
 /// Half of the row on either node, as many records as it may have.
 fn neighbours_on_two_nodes() -> [Vec<u8>; 2] {

@@ -1,12 +1,15 @@
 //! What the tests share: a judge with everything lent as it should be, the sample traces, and how judges that
 //! are wrong are found out.
 
+use reference::generator::inquiry::Inquiry;
 use reference::generator::pair::Pair;
 use reference::generator::{Case, flat_table};
 use reference::line::{self, Line};
+use reference::list::{self, Ends, Filled};
+use reference::list_trial::Trial;
 use reference::merge::{Merged, merge};
 use reference::trial::{Call, difference};
-use reference::{Answer, Asked, Choice, Inputs, MAX_BYTES, MAX_RECORDS, judge, merge_trial};
+use reference::{Answer, Asked, Choice, Inputs, MAX_BYTES, MAX_RECORDS, Question, judge, merge_trial};
 
 #[allow(dead_code)]
 pub const TRACE_A: &str = "\
@@ -144,6 +147,37 @@ fn merger_differs_in(pairs: u64, merger: impl Fn(&[u8], &[u8], u32, &mut [u8]) -
         let given = theirs.run(&pair, &merger);
         merge_trial::difference((&expected, &ours), (&given, &theirs)).is_some()
     })
+}
+
+/// Whether one of the first inquiries finds out who lists other messages.
+#[allow(dead_code)]
+pub fn messages_are_found(wrong: impl Fn(Question, &mut [Ends]) -> Filled) -> bool {
+    lister_differs_in(5_000, wrong, list::chain)
+}
+
+/// Whether one of them finds out who lists other chains.
+#[allow(dead_code)]
+pub fn chains_are_found(wrong: impl Fn(Question, u64, &mut [u64]) -> Filled) -> bool {
+    lister_differs_in(5_000, list::messages, wrong)
+}
+
+/// Whether none of them finds anything, of fewer.
+#[allow(dead_code)]
+pub fn lister_passes(
+    messages: impl Fn(Question, &mut [Ends]) -> Filled,
+    chain: impl Fn(Question, u64, &mut [u64]) -> Filled,
+) -> bool {
+    !lister_differs_in(2_000, messages, chain)
+}
+
+#[allow(dead_code)]
+fn lister_differs_in(
+    inquiries: u64,
+    messages: impl Fn(Question, &mut [Ends]) -> Filled,
+    chain: impl Fn(Question, u64, &mut [u64]) -> Filled,
+) -> bool {
+    let mut trial = Trial::default();
+    (0..inquiries).map(Inquiry::from_seed).any(|inquiry| trial.run(&inquiry, &messages, &chain).1.is_some())
 }
 
 /// The lines of a trace, each with its LF.
