@@ -3,7 +3,9 @@
 use Prim.Native.Nat.{ℕ}
 use mathlib.Core.Bool.{cond}
 use mathlib.Core.List.{List, [], _∷_}
+use lib.IntN.{pos}
 use lib.Dec.{eqb, ltb}
+use Rattle.paper.specs.declared.Asked.{Asked}
 use Rattle.arguments.specs.declared.Plan.{Plan}
 use Rattle.arguments.specs.declared.Plan.the-variants.{BadChoice, TooMany, Unnamed, Judge}
 
@@ -20,3 +22,7 @@ planOf count first =
     cond (eqb (choiceNamed first) 0)
     BadChoice
     (cond (ltb 5 count) TooMany (cond (ltb count 4) Unnamed (Judge (choiceNamed first) (ltb 4 count))))
+
+-- the programs that have these arguments ask for no levels: "0 for off, as for document 01's samples"
+unfoldable pub levelsOff : ℕ → Asked
+levelsOff choice = record { choice = choice; levels = 0; picl = pos 0; user = pos 0; trace = pos 0 }

@@ -18,7 +18,7 @@ use Rattle.causes.proofs.Along.{held-one, held-alone, held-inside, held
 use Rattle.causes.proofs.Best.{Foremost, Best, all-long, foremost}
 use Rattle.causes.proofs.Finds.{finds}
 
--- ---- "Together they leave one chain"
+-- ---- all of these together leave one chain
 
 sooner-begins : {w : Waits} {c d : List ℕ} → Sooner w c d → at c 0 ≡ at d 0
 sooner-begins (now e other) = refl

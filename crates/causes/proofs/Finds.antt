@@ -20,7 +20,7 @@ use Rattle.causes.proofs.Held.{Held, still, goes}
 use Rattle.causes.proofs.Along.{held-some, held-begins, held-one}
 use Rattle.causes.proofs.Best.{Best, all-long, foremost, best-same, best-before, best-more, best-fewer}
 
--- ---- "a step is to a record that is waited for exactly so long"
+-- ---- a step is to a record that is waited for exactly so long
 
 module _ (x : ℕ → ℤ) (time : ℤ) (v j : ℕ) where
   pub exactly-some : (o : Option ℕ) → exactly x time v o ≡ some j → (o ≡ some j) × (time ≡ x j +ℤ pos v)

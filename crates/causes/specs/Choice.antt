@@ -24,7 +24,7 @@ pub record Chosen (w : Waits) (x : ℕ → ℤ) (i : ℕ) (c : List ℕ) : Type 
 -- what else is said of it
 pub record Chain (w : Waits) (x : ℕ → ℤ) (i : ℕ) (c : List ℕ) : Type 0 where
   pub chosen : Chosen w x i c
-  -- "Together they leave one chain"
+  -- all of these together leave one chain
   pub only : (d : List ℕ) → Chosen w x i d → d ≡ c
   -- "no record occurs twice", so that it has at most as many records as there are
   pub once : Once c

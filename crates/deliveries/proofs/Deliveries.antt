@@ -20,7 +20,7 @@ use Rattle.forms.proofs.Tests.{both}
 use Rattle.lines.specs.Adding.{Added}
 use Rattle.lines.specs.Parts.{recordShown}
 use Rattle.lines.specs.Lines.{messageShown, partyShown}
-use Rattle.lines.proofs.Outcome.{one-put}
+use Rattle.report.proofs.Outcome.{one-put}
 use Rattle.deliveries.specs.Deliveries.{lineOf, linesOf, deliveriesOf, pairsIn, fitting, DeliveredInto}
 
 -- ---- whether the slices fit

@@ -11,8 +11,7 @@ use Rattle.paper.specs.declared.Entry.{Entry}
 use Rattle.paper.specs.declared.Pair.{Pair}
 use Rattle.mail.specs.Mail.{sendIn}
 use Rattle.report.specs.Put.{Short}
-use Rattle.report.proofs.Puts.{then, as-long}
-use Rattle.lines.proofs.Adding.{nothing-put}
+use Rattle.lines.proofs.Adding.{nothing-put, one-more}
 use Rattle.deliveries.specs.Deliveries.{lineOf, linesOf, pairsIn}
 
 lines-append : (es : List Entry) (x : ℕ → ℤ) (a b : List Pair) → linesOf es x (a ++ b) ≡ linesOf es x a ++ linesOf es x b
@@ -30,19 +29,14 @@ unfolding messagesTo linesOf
 begins es x sends room = record { put = nothing-put 0 room 0 (omega arith); inside = omega arith }
 
 module _ {es : List Entry} {x : ℕ → ℤ} {sends room₀ room : List ℕ} {at i : ℕ} (g : Going es x sends room₀ room at i) where
-  pub same-room : length room ≡ length room₀
-  same-room = as-long (g .put .put)
-
-  pub room-left : i < length sends → 256 * length sends + 256 ≤ length room₀ → at + 256 ≤ length room
-  room-left h wide = omega (arith, g .put .short, same-room, wide, h)
-
   pub goes-on : {end : ℕ} {after : List ℕ} → i < length sends
       → Short 256 room at (linesOf es x (messageAt i (sendIn sends i))) end after → Going es x sends room₀ after end (i + 1)
   unfolding messagesTo
   goes-on h p =
       record {
-        put = rw (add-one i, lines-append es x (messagesTo (sendIn sends) i) (messageAt i (sendIn sends i)))
-            (record { put = then (g .put .put) (p .put); short = omega (arith, g .put .short, p .short) });
+        put =
+            rw (add-one i, lines-append es x (messagesTo (sendIn sends) i) (messageAt i (sendIn sends i)))
+            (rw (add-one i) at (one-more i (g .put) p));
         inside = omega arith;
       }
 

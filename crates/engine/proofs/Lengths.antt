@@ -9,7 +9,7 @@ use borrow.Author.Tests.{eqb-true, eq-eqb}
 use Rattle.engine.specs.Promise.{allAre}
 use Rattle.engine.specs.Inner.{Sized}
 
-both : (a b : Bool) → cond a b false ≡ true → (a ≡ true) × (b ≡ true)
+pub both : (a b : Bool) → cond a b false ≡ true → (a ≡ true) × (b ≡ true)
 both true b e = (refl, e)
 both false b e = (e, cc)
 

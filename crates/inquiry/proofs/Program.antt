@@ -22,7 +22,8 @@ use Rattle.decided.specs.declared.Readiness.{Readiness}
 use Rattle.decided.specs.declared.Readiness.the-variants.{Both, Ended}
 use Rattle.decided.specs.Decided.{readyOf}
 use Rattle.showing.specs.Shown.{onTrace}
-use Rattle.inquiry.specs.Arguments.{startOf, levelsOff}
+use Rattle.arguments.specs.Arguments.{levelsOff}
+use Rattle.inquiry.specs.Arguments.{startOf}
 use Rattle.inquiry.specs.Program.{TextInto, onTable, onFiles, onStart, saidOf}
 use Rattle.showing.specs.declared.Shows.{Shows}
 use Rattle.inquiry.specs.declared.begun.Start.{Start}

@@ -2,9 +2,7 @@
 use Prim.Native.Nat.{ℕ}
 use mathlib.Core.Bool.{Bool, false, cond}
 use mathlib.Core.List.{List}
-use lib.IntN.{pos}
 use Rattle.paper.specs.Columns.{nowhere}
-use Rattle.paper.specs.declared.Asked.{Asked}
 use Rattle.paper.specs.declared.Fault.the-variants as Fault
 use Rattle.answer.specs.Answers.{refusal}
 use Rattle.arguments.specs.declared.Plan.{Plan}
@@ -29,7 +27,3 @@ onPlan shows (Plan.Judge choice more) = cond (tooMany shows more) (Ended Said.To
 -- the choice first, then too many arguments, then a file that is not named
 unfoldable pub startOf : Shows → (count : ℕ) (choice : List ℕ) → Start
 startOf shows count choice = onPlan shows (planOf count choice)
-
--- these programs ask for no levels: "0 for off, as for document 01's samples"
-unfoldable pub levelsOff : ℕ → Asked
-levelsOff choice = record { choice = choice; levels = 0; picl = pos 0; user = pos 0; trace = pos 0 }

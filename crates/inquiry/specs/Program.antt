@@ -17,7 +17,8 @@ use Rattle.report.specs.Said.{saidShown}
 use Rattle.report.specs.declared.Said.the-variants as Said
 use Rattle.showing.specs.Shown.{onTrace}
 use Rattle.showing.specs.declared.Shows.{Shows}
-use Rattle.inquiry.specs.Arguments.{startOf, levelsOff}
+use Rattle.arguments.specs.Arguments.{levelsOff}
+use Rattle.inquiry.specs.Arguments.{startOf}
 use Rattle.inquiry.specs.declared.begun.Start.{Start}
 use Rattle.inquiry.specs.declared.begun.Start.the-variants.{Ended, Judge}
 

@@ -1,8 +1,7 @@
 // What the arguments ask for, before any file is looked at.
 ghost use mathlib.Core.Path.{_≡_};
-ghost use Rattle.inquiry.specs.Arguments.{tooMany, startOf, levelsOff};
+ghost use Rattle.inquiry.specs.Arguments.{tooMany, startOf};
 use arguments::Plan;
-use paper::Asked;
 use paper::Fault;
 use report::Said;
 use showing::Shows;
@@ -37,18 +36,5 @@ pub(crate) fn begun(shows: Shows, count: usize, choice: &[u8]) -> Start
             }
             Start::Judge(choice)
         }
-    }
-}
-
-// These programs ask for no levels.
-pub(crate) fn levels_off(choice: u32) -> Asked
-    ensures { λ r. ⌜ r ≡ levelsOff choice ⌝ }
-{
-    Asked {
-        choice: choice,
-        levels: 0,
-        picl: 0,
-        user: 0,
-        trace: 0,
     }
 }

@@ -4,7 +4,6 @@ ghost use lib.ListN.{length};
 ghost use Rattle.report.specs.Put.{Put};
 ghost use Rattle.files.specs.File.{fileOf};
 ghost use Rattle.inquiry.specs.Program.{TextInto, onFiles};
-use crate::begun;
 use decided::Readiness;
 use showing::Shows;
 
@@ -45,7 +44,7 @@ fn of_bytes(
     match decided::ready(read, got, fits) {
         Readiness::Ended(said) => showing::say(said, room),
         Readiness::Both => {
-            let asked = begun::levels_off(choice);
+            let asked = arguments::levels_off(choice);
             showing::show(shows, asked, trace, &latencies, line, room)
         }
     }

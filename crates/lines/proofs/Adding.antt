@@ -1,11 +1,11 @@
 -- Lines added one behind the other.
-use Prim.Native.Nat.{ℕ, _+_, _≤_, _<_}
+use Prim.Native.Nat.{ℕ, _+_, _*_, _≤_, _<_}
 use mathlib.Core.Path.{_≡_, refl, sym, ap}
-use mathlib.Core.List.{List, []}
+use mathlib.Core.List.{List, [], _++_}
 use native.Mathlib.Omega.{arith}
 use lib.ListN.{length, take, take-append-drop}
 use Rattle.report.specs.Put.{Put, Short}
-use Rattle.report.proofs.Puts.{front}
+use Rattle.report.proofs.Puts.{front, then, as-long}
 use Rattle.lines.specs.Adding.{Added}
 use Rattle.lines.specs.Lines.{LineInto}
 
@@ -37,3 +37,12 @@ module _ {text blank line : List ℕ} {n : ℕ} (into : LineInto text blank n li
       let same : length (take n line) ≡ length text = ap length the-text in
       let p = added .there (omega (arith, wide, size, same)) in
       record { put = rw the-text at p; short = omega (arith, size, same, p .ends) }
+
+-- so many lines, one behind the other, each of at most 256 bytes
+module _ (k : ℕ) {at : ℕ} {room₀ room lines : List ℕ} (put : Short (256 * k) room₀ 0 lines at room) where
+  pub room-left : (n : ℕ) → k < n → 256 * n ≤ length room₀ → at + 256 ≤ length room
+  room-left n h wide = omega (arith, put .short, as-long (put .put), wide, h)
+
+  pub one-more : {line : List ℕ} {end : ℕ} {after : List ℕ} → Short 256 room at line end after
+      → Short (256 * (k + 1)) room₀ 0 (lines ++ line) end after
+  one-more next = record { put = then (put .put) (next .put); short = omega (arith, put .short, next .short) }

@@ -6,14 +6,9 @@ use mathlib.Core.List.{List}
 use lib.ListN.{length}
 use lib.Dec.{ltb}
 use borrow.Author.Tests.{ltb-true, ltb-false}
-use Rattle.report.specs.Put.{Put}
+use Rattle.report.proofs.Outcome.{one-put}
 use Rattle.lines.specs.Adding.{Added}
 use Rattle.lines.specs.Lines.{LineInto}
-
-pub one-put : {room text : List ℕ} {at r q : ℕ} {a b : List ℕ} → Put room at text r a → Put room at text q b → (r ≡ q) × (a ≡ b)
-one-put x y =
-    let e = x .ends ∙ sym (y .ends) in
-    (e, x .holds ∙ rw e (sym (y .holds)))
 
 pub one-line : {text room : List ℕ} {r q : ℕ} {a b : List ℕ} → LineInto text room r a → LineInto text room q b → (r ≡ q) × (a ≡ b)
 one-line x y = one-put (x .put) (y .put)

@@ -1,11 +1,13 @@
 -- Whether the slices fit, by the tests that the code makes, and what that says of each.
 use Prim.Native.Nat.{ℕ, _≤_, _<_}
-use mathlib.Core.Path.{_≡_, refl}
-use mathlib.Core.Bool.{Bool, true, false, cond, _&&_}
+use mathlib.Core.Path.{_≡_}
+use mathlib.Core.Bool.{Bool, true, false}
 use mathlib.Core.List.{List, [], _∷_}
 use borrow.Author.Tests.{eq-eqb, ne-eqb, lt-ltb, le-ltb, ltb-true, eqb-true}
+use Rattle.forms.proofs.Tests as tests
 use Rattle.store.specs.Layout.{tooMany}
 use Rattle.engine.specs.Promise.{allAre}
+use Rattle.engine.proofs.Lengths.{both}
 use Rattle.ranks.specs.Ranked.{rankable}
 
 module _ (n first : ℕ) (more : List ℕ) where
@@ -21,19 +23,11 @@ module _ (n first : ℕ) (more : List ℕ) where
   unfolding rankable allAre
   even l same e = rw (lt-ltb n tooMany l, eq-eqb first n same) e
 
-both : (a b : Bool) → cond a b false ≡ true → (a ≡ true) × (b ≡ true)
-both true b e = (refl, e)
-both false b e = (e, cc)
-
-first-of : (a b : Bool) → (a && b) ≡ true → (a ≡ true) × (b ≡ true)
-first-of true b e = (refl, e)
-first-of false b e = (e, cc)
-
 pub fitted : (n first second queue after receive : ℕ) → rankable n (first ∷ second ∷ queue ∷ after ∷ receive ∷ []) ≡ true
     → (n < tooMany) × (first ≡ n) × (second ≡ n) × (queue ≡ n) × (after ≡ n) × (receive ≡ n)
 unfolding rankable allAre
 fitted n first second queue after receive e =
-    let few = first-of _ _ e in
+    let few = tests.both _ _ e in
     let a = both _ _ (few .1) in
     let b = both _ _ (a .1) in
     let c = both _ _ (b .1) in

@@ -10,13 +10,12 @@ use lib.IntN.{ℤ}
 use Rattle.paper.specs.Clock.{timeAt}
 use Rattle.paper.specs.declared.Entry.{Entry}
 use Rattle.report.specs.Put.{Short}
-use Rattle.report.proofs.Puts.{then, as-long}
 use Rattle.lines.specs.Adding.{Added}
 use Rattle.lines.specs.Lines.{LineInto, stepShown}
 use Rattle.lines.specs.Records.{stampedAt}
 use Rattle.lines.specs.declared.Cause.{Cause}
 use Rattle.lines.specs.declared.Stamped.{Stamped}
-use Rattle.lines.proofs.Adding.{nothing-put, line-added}
+use Rattle.lines.proofs.Adding.{nothing-put, line-added, one-more}
 use Rattle.reasons.specs.Reasons.{causeOf, reasonOf, reasonsOf}
 
 module _ (es : List Entry) (times : List ℤ) (before latency : List ℕ) where
@@ -51,12 +50,6 @@ module _ (es : List Entry) (times : List ℤ) (before latency : List ℕ) where
   begins chain room = record { done = []; put = nothing-put 0 room 0 (omega arith); whole = refl; inside = omega arith }
 
   module _ {chain room₀ room : List ℕ} {at k : ℕ} (g : Going chain room₀ room at k) where
-    pub same-room : length room ≡ length room₀
-    same-room = as-long (g .put .put)
-
-    pub room-left : k < length chain → 256 * length chain ≤ length room₀ → at + 256 ≤ length room
-    room-left h wide = omega (arith, g .put .short, same-room, wide, h)
-
     pub goes-on : {end : ℕ} {after : List ℕ} → k < length chain
         → Short 256 room at (reasonOf es times before latency (getD chain k 0) (drop (k + 1) chain)) end after
         → Going chain room₀ after end (k + 1)
@@ -67,7 +60,7 @@ module _ (es : List Entry) (times : List ℤ) (before latency : List ℕ) where
         let step : reasonsOf es times before latency (drop k chain) ≡ text ++ more = rw (drop-cons chain k 0 h, add-one k) refl in
         record {
           done = g .done ++ text;
-          put = record { put = then (g .put .put) (p .put); short = omega (arith, g .put .short, p .short) };
+          put = one-more k (g .put) p;
           whole = append-assoc (g .done) text more ∙ rw (← step) (g .whole);
           inside = omega arith;
         }

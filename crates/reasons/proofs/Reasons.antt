@@ -9,7 +9,7 @@ use lib.Dec.{ltb}
 use borrow.Author.Tests.{ltb-true, ltb-false}
 use Rattle.report.specs.Put.{Short}
 use Rattle.report.proofs.Puts.{counted}
-use Rattle.lines.proofs.Outcome.{one-put}
+use Rattle.report.proofs.Outcome.{one-put}
 use Rattle.reasons.specs.Reasons.{ReasonsInto}
 
 module _ {text : List ℕ} {records : ℕ} {room : List ℕ} where

@@ -15,7 +15,7 @@ fn wide(n: u32) -> u64
 fn number_at(table: &[u32], i: usize) -> u64
     ensures { λ r. ⌜ r ≡ getD (now (table .entry)) i 0 ⌝ }
 {
-    wide(steps::number_at(table, i))
+    wide(waits::number_at(table, i))
 }
 
 // The step from i to j: the processor's where j is the record before i and their times are equal, else the send's.

@@ -15,7 +15,7 @@ use Rattle.report.specs.declared.Told.{Told}
 use Rattle.report.specs.declared.Replied.{Replied}
 use Rattle.report.proofs.Puts.{counted}
 
-one-put : {room text : List ℕ} {at r q : ℕ} {a b : List ℕ} → Put room at text r a → Put room at text q b → (r ≡ q) × (a ≡ b)
+pub one-put : {room text : List ℕ} {at r q : ℕ} {a b : List ℕ} → Put room at text r a → Put room at text q b → (r ≡ q) × (a ≡ b)
 one-put x y =
     let e = x .ends ∙ sym (y .ends) in
     (e, x .holds ∙ rw e (sym (y .holds)))

@@ -13,10 +13,10 @@ use Rattle.report.specs.declared.Said.{Said}
 use Rattle.report.specs.declared.Said.the-variants.{Answered, CannotRead, TooMany}
 use Rattle.arguments.specs.declared.Plan.{Plan}
 use Rattle.arguments.specs.declared.Plan.the-variants as Plan
-use Rattle.arguments.specs.Arguments.{planOf}
+use Rattle.arguments.specs.Arguments.{planOf, levelsOff}
 use Rattle.files.specs.Told.{ByFiles}
 use Rattle.filed.specs.Filed.{onFiles}
-use Rattle.shell.specs.Program.{levelsOff, onPlan, saidOf}
+use Rattle.shell.specs.Program.{onPlan, saidOf}
 
 module _ (count : ℕ) (first : List ℕ) {plan : Plan} (planned : plan ≡ planOf count first) where
   pub refuses : {answer : Answer} → plan ≡ Plan.BadChoice → answer ≡ refusal Fault.BadChoice nowhere → ByFiles (saidOf count first) (Answered answer)

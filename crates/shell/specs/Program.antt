@@ -3,21 +3,15 @@ use Prim.Native.Nat.{ℕ}
 use mathlib.Core.Bool.{Bool}
 use mathlib.Core.List.{List}
 use mathlib.Core.Option.{Option}
-use lib.IntN.{pos}
 use Rattle.paper.specs.Columns.{nowhere}
-use Rattle.paper.specs.declared.Asked.{Asked}
 use Rattle.paper.specs.declared.Fault.the-variants as Fault
 use Rattle.answer.specs.Answers.{refusal}
 use Rattle.report.specs.declared.Said.{Said}
 use Rattle.report.specs.declared.Said.the-variants as Said
 use Rattle.arguments.specs.declared.Plan.{Plan}
 use Rattle.arguments.specs.declared.Plan.the-variants.{BadChoice, TooMany, Unnamed, Judge}
-use Rattle.arguments.specs.Arguments.{planOf}
+use Rattle.arguments.specs.Arguments.{planOf, levelsOff}
 use Rattle.filed.specs.Filed.{onFiles}
-
--- this program asks for no levels: "0 for off, as for document 01's samples"
-unfoldable pub levelsOff : ℕ → Asked
-levelsOff choice = record { choice = choice; levels = 0; picl = pos 0; user = pos 0; trace = pos 0 }
 
 unfoldable pub onPlan : Plan → (trace table : Option (List ℕ)) (stored : Bool) → Said
 onPlan BadChoice trace table stored = Said.Answered (refusal Fault.BadChoice nowhere)

@@ -1,11 +1,9 @@
 // The program `cantuvesh CHOICE TRACE TABLE [OUT]`, as document 01 has it under "What the base covers". What it says is a function of
 // its arguments, of what its files hold and of whether OUT could be written (specs/Program.antt); the functions here ask the system for
 // its arguments and print what is said.
-ghost use mathlib.Core.Path.{_≡_};
 ghost use Rattle.files.specs.Told.{ByFiles};
-ghost use Rattle.shell.specs.Program.{levelsOff, saidOf};
+ghost use Rattle.shell.specs.Program.{saidOf};
 use arguments::Plan;
-use paper::Asked;
 use paper::Fault;
 use report::Said;
 
@@ -44,20 +42,7 @@ fn performed(count: usize, choice: &[u8], trace: &[u8], table: &[u8], out: &[u8]
         Plan::TooMany => Said::TooMany,
         Plan::Unnamed => Said::CannotRead,
         Plan::Judge(choice, wanted) => {
-            filed::judge_files(levels_off(choice), wanted, trace, table, out)
+            filed::judge_files(arguments::levels_off(choice), wanted, trace, table, out)
         }
-    }
-}
-
-// This program asks for no levels.
-fn levels_off(choice: u32) -> Asked
-    ensures { λ r. ⌜ r ≡ levelsOff choice ⌝ }
-{
-    Asked {
-        choice: choice,
-        levels: 0,
-        picl: 0,
-        user: 0,
-        trace: 0,
     }
 }

@@ -2,7 +2,6 @@
 // that one's plus the wait. Numbers past the end of a slice are 0.
 ghost use mathlib.Core.Path.{_≡_};
 ghost use mathlib.Core.Bool.{cond};
-ghost use lib.ListN.{getD};
 ghost use lib.Dec.{eqb};
 ghost use Rattle.paper.specs.Clock.{timeAt};
 ghost use Rattle.steps.specs.Tables.{keeps, exactAt, exactTable, processorSteps, endRank, endRanks};
@@ -15,15 +14,6 @@ pub fn time_at(times: &[i64], i: usize) -> i64
 {
     if i < times.len() {
         return times[i];
-    }
-    0
-}
-
-pub fn number_at(table: &[u32], i: usize) -> u32
-    ensures { λ r. ⌜ r ≡ getD (now (table .entry)) i 0 ⌝ }
-{
-    if i < table.len() {
-        return table[i];
     }
     0
 }
@@ -49,7 +39,7 @@ fn exact_at(times: &[i64], waits: &[u32], none: u32, i: usize, j: u32) -> u32
     if times.len() <= at {
         return none;
     }
-    if kept(time_at(times, i), times[at], number_at(waits, i)) {
+    if kept(time_at(times, i), times[at], waits::number_at(waits, i)) {
         return j;
     }
     none

@@ -35,11 +35,13 @@ module _ {A : Type 0} (d : A) (rule : ℕ → A) where
         }
 
     -- filled to the end, it is the whole table
+    pub fill-whole : length out ≤ i → out ≡ listed n rule
+    fill-whole all =
+        ext-getD d out (listed n rule) (f .size ∙ sym (length-listed n rule))
+        (λ k k<. f .filled k (omega arith) ∙ sym (listed-at n rule k d (omega (arith, f .size))))
+
     pub fill-all : (l : List ℕ) → length out ≤ i → out ≡ listed (length (entriesIn l n)) rule
-    fill-all l all =
-        rw (length-entries l n)
-        (ext-getD d out (listed n rule) (f .size ∙ sym (length-listed n rule))
-        (λ k k<. f .filled k (omega arith) ∙ sym (listed-at n rule k d (omega (arith, f .size)))))
+    fill-all l all = rw (length-entries l n) (fill-whole all)
 
 -- what is said of a record of the store is said of its entry
 pub of-entry : {A : Type 0} (f : Entry → A) (l : List ℕ) {n i : ℕ} {v : A} → i < n → v ≡ f (entryFrom l i) → v ≡ f (entryAt (entriesIn l n) i)

@@ -9,7 +9,7 @@ use paper::Role;
 // ---- one record
 
 // The number at a place of the table, 0 where it has no such place.
-fn number_at(table: &[u32], at: usize) -> u32
+pub fn number_at(table: &[u32], at: usize) -> u32
     ensures { λ r. ⌜ r ≡ getD (now (table .entry)) at 0 ⌝ }
 {
     if at < table.len() {

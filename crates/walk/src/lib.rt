@@ -22,8 +22,8 @@ fn rank_at(ranks: &[u32], i: usize) -> usize
 fn next_of(first: &[u32], second: &[u32], ranks: &[u32], i: usize, left: usize) -> u32
     ensures { λ r. ⌜ r ≡ next (now (first .entry)) (now (second .entry)) (now (ranks .entry)) left i ⌝ }
 {
-    let processor = steps::number_at(first, i);
-    let send = steps::number_at(second, i);
+    let processor = waits::number_at(first, i);
+    let send = waits::number_at(second, i);
     let rank = rank_at(ranks, processor as usize);
     steps::onward(processor, send, rank, left)
 }

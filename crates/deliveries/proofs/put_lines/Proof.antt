@@ -5,7 +5,9 @@ use Prim.Native.Nat.{_-_}
 use lib.ListN.{length}
 use Rattle.paper.specs.Clock.{timeAt}
 use Rattle.store.specs.Layout.{entriesIn}
-use Rattle.deliveries.proofs.Going.{Going, begins, same-room, room-left, goes-on, all-put}
+use Rattle.report.proofs.Puts.{as-long}
+use Rattle.lines.proofs.Adding.{room-left}
+use Rattle.deliveries.proofs.Going.{Going, begins, goes-on, all-put}
 use Rattle.deliveries.proofs.put_lines.Statement.{statement}
 use Rattle.deliveries.proofs.put_lines.Tie as tie
 
@@ -21,7 +23,8 @@ loop-holds c = begins _ _ _ _
 put-received-requires : tie.Need-put-received-requires Inv-loop μ-loop
 put-received-requires c κs =
     let s = c .before .before .before .before .before .before in
-    (c .before .loop-test .taken, s .pre .0, room-left (c .before .before .loop .inv) (c .before .loop-test .taken) (s .pre .1))
+    let more = c .before .loop-test .taken in
+    (more, s .pre .0, room-left _ (c .before .before .loop .inv .put) _ more (omega (arith, s .pre .1)))
 
 add-i : tie.Need-add-i Inv-loop μ-loop
 add-i c = search needs
@@ -35,7 +38,7 @@ loop-again c =
     (c .before .before .put-received .ensures)
 
 same-length : tie.Need-same-length Inv-loop μ-loop
-same-length c = same-room (c .before .loop .inv)
+same-length c = as-long (c .before .loop .inv .put .put)
 
 returns : tie.Need-returns Inv-loop μ-loop
 returns c = all-put (c .before .loop .inv) (c .loop-test .left)

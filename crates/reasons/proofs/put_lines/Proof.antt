@@ -4,7 +4,9 @@ use native.Mathlib.Omega.{arith}
 use Prim.Native.Nat.{_-_}
 use lib.ListN.{length}
 use Rattle.store.specs.Layout.{entriesIn}
-use Rattle.reasons.proofs.Going.{Going, begins, same-room, room-left, goes-on, all-put}
+use Rattle.report.proofs.Puts.{as-long}
+use Rattle.lines.proofs.Adding.{room-left}
+use Rattle.reasons.proofs.Going.{Going, begins, goes-on, all-put}
 use Rattle.reasons.proofs.put_lines.Statement.{statement}
 use Rattle.reasons.proofs.put_lines.Tie as tie
 
@@ -18,11 +20,9 @@ loop-holds : tie.Need-loop-holds Inv-loop μ-loop
 loop-holds c = begins _ _ _ _ _ _
 
 put-reason-requires : tie.Need-put-reason-requires Inv-loop μ-loop
-put-reason-requires c κs = (
-  c .before .loop-test .taken,
-  room-left _ _ _ _ (c .before .before .loop .inv) (c .before .loop-test .taken)
-      (c .before .before .before .before .before .before .before .before .pre),
-)
+put-reason-requires c κs =
+    let more = c .before .loop-test .taken in
+    (more, room-left _ (c .before .before .loop .inv .put) _ more (c .before .before .before .before .before .before .before .before .pre))
 
 add-k : tie.Need-add-k Inv-loop μ-loop
 add-k c = search needs
@@ -36,7 +36,7 @@ loop-again c =
     (c .before .before .put-reason .ensures)
 
 same-length : tie.Need-same-length Inv-loop μ-loop
-same-length c = same-room _ _ _ _ (c .before .loop .inv)
+same-length c = as-long (c .before .loop .inv .put .put)
 
 returns : tie.Need-returns Inv-loop μ-loop
 returns c = all-put _ _ _ _ (c .before .loop .inv) (c .loop-test .left)

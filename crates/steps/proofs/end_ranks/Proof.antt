@@ -5,20 +5,21 @@ use borrow.Author.Needs.{needs, sfits-of}
 use lib.ListN.{length}
 use mir.Facts.{toZ-ofZ}
 use Rattle.paper.specs.Clock.{timeAt}
+use Rattle.waits.proofs.Filling.{Filling, fill-none, fill-more, fill-whole}
 use Rattle.steps.specs.Tables.{endRank, endRanks}
 use Rattle.steps.proofs.Laws.{end-told}
-use Rattle.steps.proofs.Filling.{Filling, fill-none, fill-more, fill-all}
 use Rattle.steps.proofs.end_ranks.Statement.{statement}
 use Rattle.steps.proofs.end_ranks.Tie as tie
 
 abbrev Inv-loop : tie.InvT-loop
-Inv-loop originals times none ranks₀ i₀ ranks i = Filling (λ k. endRank (timeAt times k) (timeAt originals k) none) ranks₀ ranks i
+Inv-loop originals times none ranks₀ i₀ ranks i =
+    Filling 0 (λ k. endRank (timeAt times k) (timeAt originals k) none) (length ranks₀) ranks i
 
 abbrev μ-loop : tie.MeasureT-loop
 μ-loop originals times none ranks₀ i₀ ranks i = length ranks₀ - i
 
 loop-holds : tie.Need-loop-holds Inv-loop μ-loop
-loop-holds c = fill-none _ _
+loop-holds c = fill-none _ _ _
 
 time-at-requires : tie.Need-time-at-requires Inv-loop μ-loop
 time-at-requires c κs = search needs
@@ -44,7 +45,7 @@ loop-less c = search needs
 loop-again : tie.Need-loop-again Inv-loop μ-loop
 loop-again c =
     let c₂ = c .before .before in
-    fill-more _ (c₂ .before .before .loop .inv) _ (c₂ .before .loop-test .taken)
+    fill-more _ _ (c₂ .before .before .loop .inv) _ (c₂ .before .loop-test .taken)
     (end-told _ (toZ-ofZ (sfits-of (c₂ .time-at .ok)) ∙ c₂ .time-at .ensures)
     (toZ-ofZ (sfits-of (c .before .time-at2 .ok)) ∙ c .before .time-at2 .ensures) (c .end-rank .ensures))
 
@@ -53,7 +54,7 @@ same-length c = search needs
 
 returns : tie.Need-returns Inv-loop μ-loop
 unfolding endRanks
-returns c = fill-all _ (c .before .loop .inv) (c .loop-test .left)
+returns c = fill-whole _ _ (c .before .loop .inv) (c .loop-test .left)
 
 pub end-ranks-spec : {M : Type 1} → statement M
 end-ranks-spec =

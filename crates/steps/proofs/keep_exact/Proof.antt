@@ -4,19 +4,21 @@ use native.Mathlib.Omega.{arith}
 use mathlib.Core.Path.{ap, _∙_}
 use borrow.Author.Needs.{needs}
 use lib.ListN.{length, getD}
+use Rattle.waits.proofs.Filling.{Filling, fill-none, fill-more, fill-whole}
 use Rattle.steps.specs.Tables.{exactAt, exactTable}
-use Rattle.steps.proofs.Filling.{Filling, fill-none, fill-more, fill-all}
+use Rattle.steps.proofs.Filling.{Left, left-all, left-more}
 use Rattle.steps.proofs.keep_exact.Statement.{statement}
 use Rattle.steps.proofs.keep_exact.Tie as tie
 
 abbrev Inv-loop : tie.InvT-loop
-Inv-loop times waits none table₀ i₀ table i = Filling (λ k. exactAt times waits none k (getD table₀ k 0)) table₀ table i
+Inv-loop times waits none table₀ i₀ table i =
+    Filling 0 (λ k. exactAt times waits none k (getD table₀ k 0)) (length table₀) table i × Left table₀ table i
 
 abbrev μ-loop : tie.MeasureT-loop
 μ-loop times waits none table₀ i₀ table i = length table₀ - i
 
 loop-holds : tie.Need-loop-holds Inv-loop μ-loop
-loop-holds c = fill-none _ _
+loop-holds c = (fill-none _ _ _, left-all _)
 
 mul-exact-at : tie.Need-mul-exact-at Inv-loop μ-loop
 mul-exact-at c = search needs
@@ -42,14 +44,15 @@ loop-less c = search needs
 loop-again : tie.Need-loop-again Inv-loop μ-loop
 loop-again c =
     let at = c .before .before .before .loop in
-    fill-more _ (at .inv) _ (c .before .before .loop-test .taken) (c .exact-at .ensures ∙ ap (exactAt _ _ _ _) (at .inv .rest _ (omega arith)))
+    let same = ap (exactAt _ _ _ _) (at .inv .1 .rest (at .i) (omega arith)) in
+    (fill-more _ _ (at .inv .0) _ (c .before .before .loop-test .taken) (c .exact-at .ensures ∙ same), left-more (at .inv .1) _)
 
 same-length : tie.Need-same-length Inv-loop μ-loop
 same-length c = search needs
 
 returns : tie.Need-returns Inv-loop μ-loop
 unfolding exactTable
-returns c = fill-all _ (c .before .loop .inv) (c .loop-test .left)
+returns c = fill-whole _ _ (c .before .loop .inv .0) (c .loop-test .left)
 
 pub keep-exact-spec : {M : Type 1} → statement M
 keep-exact-spec =

@@ -5,16 +5,16 @@ use mathlib.Core.Path.{sym, ap, _∙_}
 use borrow.Author.Needs.{needs}
 use lib.ListN.{length}
 use Rattle.store.specs.Layout.{entriesIn}
+use Rattle.waits.proofs.Filling.{Filling, fill-none, fill-more, fill-whole}
 use Rattle.waits.proofs.Last.{Lasts, last-none, last-before, last-more}
 use Rattle.steps.specs.Tables.{exactAt}
-use Rattle.steps.proofs.Filling.{Filling, fill-none, fill-more, fill-all}
 use Rattle.steps.proofs.Before.{stepAt, steps-table, steps-few, steps-kept}
 use Rattle.steps.proofs.processor_steps.Statement.{statement}
 use Rattle.steps.proofs.processor_steps.Tie as tie
 
 abbrev Inv-loop : tie.InvT-loop
 Inv-loop store times gaps out₀ none last₀ i₀ out last i =
-    Filling (stepAt store times gaps (length out₀)) out₀ out i × Lasts (entriesIn store (length out₀)) i last
+    Filling 0 (stepAt store times gaps (length out₀)) (length out₀) out i × Lasts (entriesIn store (length out₀)) i last
 
 abbrev μ-loop : tie.MeasureT-loop
 μ-loop store times gaps out₀ none last₀ i₀ out last i = length out₀ - i
@@ -29,7 +29,7 @@ for-each-requires : tie.Need-for-each-requires Inv-loop μ-loop
 for-each-requires c κs = search needs
 
 loop-holds : tie.Need-loop-holds Inv-loop μ-loop
-loop-holds c = (fill-none _ _, rw (c .for-each .ensures) (last-none _ _))
+loop-holds c = (fill-none _ _ _, rw (c .for-each .ensures) (last-none _ _))
 
 processor-at-requires : tie.Need-processor-at-requires Inv-loop μ-loop
 processor-at-requires c κs = search needs
@@ -70,7 +70,7 @@ loop-again c =
     let i< : at .i < length (c .before .before .before .before .before .before .before .before .before .args .out .now) =
     omega (arith, at .inv .0 .size, c .before .before .loop-test .taken) in
     let on = c .before .processor-at .ensures in (
-      fill-more _ (at .inv .0) _ (c .before .before .loop-test .taken) (c .exact-at .ensures ∙ ap (exactAt _ _ _ _) (last-before _ _ (at .inv .1) i< on)),
+      fill-more _ _ (at .inv .0) _ (c .before .before .loop-test .taken) (c .exact-at .ensures ∙ ap (exactAt _ _ _ _) (last-before _ _ (at .inv .1) i< on)),
       last-more _ _ (at .inv .1) i< on,
     )
 
@@ -79,7 +79,7 @@ same-length c = c .before .loop .inv .0 .size
 
 returns-2 : tie.Need-returns-2 Inv-loop μ-loop
 returns-2 c =
-    fill-all _ (c .before .loop .inv .0) (c .loop-test .left) ∙ steps-table _ _ _ _
+    fill-whole _ _ (c .before .loop .inv .0) (c .loop-test .left) ∙ steps-table _ _ _ _
     ∙ sym (steps-few _ _ _ _ (c .before .before .before .if1 .left))
 
 pub processor-steps-spec : {M : Type 1} → statement M
