@@ -42,6 +42,7 @@ pub fn number(fault: Fault) -> u64
         Fault::NoRoom => 16,
         Fault::OtherLevels => 17,
         Fault::SharedProcessor => 18,
+        Fault::OtherStatistics => 19,
         Fault::NoPlace => 22,
     }
 }

@@ -23,6 +23,6 @@ planOf count first =
     BadChoice
     (cond (ltb 5 count) TooMany (cond (ltb count 4) Unnamed (Judge (choiceNamed first) (ltb 4 count))))
 
--- the programs that have these arguments ask for no levels: "0 for off, as for document 01's samples"
-unfoldable pub levelsOff : ℕ → Asked
-levelsOff choice = record { choice = choice; levels = 0; picl = pos 0; user = pos 0; trace = pos 0 }
+-- the programs that have these arguments ask for no levels, "0 for off, as for document 01's samples", and compare no statistics, "0 for off"
+unfoldable pub choiceAlone : ℕ → Asked
+choiceAlone choice = record { choice = choice; levels = 0; picl = pos 0; user = pos 0; trace = pos 0; statistics = 0 }

@@ -30,7 +30,7 @@ module _ (q : Query) where
 
   -- a call names one choice
   pub its-choice : (a : Accepted (judging q)) (choice : Choice) → Chosen (judging q) choice → choice ≡ a .choice
-  its-choice a choice c = one-choice (judging q) choice (a .choice) c (a .matched .levelled .read .begun .chosen)
+  its-choice a choice c = one-choice (judging q) choice (a .choice) c (a .matched .compared .levelled .read .begun .chosen)
 
   module _ {A : Type 0} (list : List A) (more : Found → Filling A) where
     -- "A refused trace keeps its refusal"

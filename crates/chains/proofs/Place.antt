@@ -43,17 +43,17 @@ place-begins l n sends link heads seen size h e =
     }
 
 -- what holds below i and of i holds below i + 1, after a store at i
-after-set : (P : ℕ → ℕ → Type 0) (xs : List ℕ) (i v : ℕ) → i < length xs → ((j : ℕ) → j < i → P j (getD xs j 0)) → P i v
-    → (j : ℕ) → j < i + 1 → P j (getD (set xs i v) j 0)
-after-set P xs i v l below at j h = go (decLt j i)
+pub after-set : {A : Type 0} (d : A) (P : ℕ → A → Type 0) (xs : List A) (i : ℕ) (v : A) → i < length xs → ((j : ℕ) → j < i → P j (getD xs j d))
+    → P i v → (j : ℕ) → j < i + 1 → P j (getD (set xs i v) j d)
+after-set d P xs i v l below at j h = go (decLt j i)
   where
-    go : Dec (j < i) → P j (getD (set xs i v) j 0)
-    go (yes g) = rw (getD-set-other xs i j v 0 (λ z. absurd (omega arith))) (below j g)
-    go (no g) = let z : j ≡ i = omega arith in rw (z, getD-set-same xs i v 0 l) at
+    go : Dec (j < i) → P j (getD (set xs i v) j d)
+    go (yes g) = rw (getD-set-other xs i j v d (λ z. absurd (omega arith))) (below j g)
+    go (no g) = let z : j ≡ i = omega arith in rw (z, getD-set-same xs i v d l) at
 
 module _ (l : List ℕ) (n : ℕ) (sends link heads seen : List ℕ) (i : ℕ) (m : i < n) (h : Placing l n sends link heads seen i) where
   placed-more : (v : ℕ) → v ≡ Option·getD (sendOf (entriesIn l n) i) n → Placed l n (set sends i v) (i + 1)
-  placed-more v e = after-set (λ j x. x ≡ Option·getD (sendOf (entriesIn l n) j) n) sends i v (omega (arith, h .size)) (h .placed) e
+  placed-more v e = after-set 0 (λ j x. x ≡ Option·getD (sendOf (entriesIn l n) j) n) sends i v (omega (arith, h .size)) (h .placed) e
 
   -- a record that is no receive
   place-none : sendOf (entriesIn l n) i ≡ none → ((b : ℕ) → receiveIn l b i ≡ false)
@@ -143,7 +143,7 @@ module _ (l : List ℕ) (n : ℕ) (sends link heads seen : List ℕ) (i : ℕ) (
           };
           buckets = simp length-set (h .buckets);
           last = λ c g. last-of c g (eqb b c) refl;
-          backed = λ j c a. after-set (λ j x. receiveIn l c j ≡ true → Last (receiveIn l c) j x) link i (getD seen b 0) (omega (arith, h .chained .size)) (λ j g. h .backed j c g) (back-of c) j a;
+          backed = λ j c a. after-set 0 (λ j x. receiveIn l c j ≡ true → Last (receiveIn l c) j x) link i (getD seen b 0) (omega (arith, h .chained .size)) (λ j g. h .backed j c g) (back-of c) j a;
           placed = placed-more s (found-send s f);
         }
 

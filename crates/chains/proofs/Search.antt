@@ -9,8 +9,8 @@ use lib.ListN.{length, getD}
 use Rattle.side.specs.declared.Key.{Key}
 use Rattle.side.specs.Sides.{bucketOf, sendUnder, receiveUnder}
 use Rattle.side.proofs.Buckets.{no-send-in, no-receive-in}
-use Rattle.chains.specs.Chains.{First, Last, sendIn, receiveIn, Forward, Backward, startFrom}
-use Rattle.chains.proofs.Walks.{Going, goes-on, Going-back, goes-back}
+use Rattle.chains.specs.Chains.{First, sendIn, receiveIn, Forward, Backward, startFrom}
+use Rattle.chains.proofs.Walks.{Going, goes-on, Going-back, back-begins, back-less, back-turns}
 
 -- ---- forwards
 
@@ -38,17 +38,14 @@ Backwards l key from s = Going-back (receiveUnder l key) (receiveIn l (bucketOf 
 
 module _ (l : List ℕ) (link : List ℕ) (key : Key) (from : ℕ) (h : Backward l link (bucketOf key) from) where
   pub backward-begins : Backwards l key from from
-  backward-begins = record { high = omega arith; none = λ k a b. absurd (omega arith); on = h .here }
+  backward-begins = back-begins _ _ link from (λ j. h .backed j (bucketOf key)) (h .here)
 
   module _ (s : ℕ) (g : Backwards l key from s) (m : 0 < s) where
-    linked-before : Last (receiveIn l (bucketOf key)) (s - 1) (getD link (s - 1) 0)
-    linked-before = h .backed (s - 1) (bucketOf key) (omega (arith, g .high)) (g .on (s - 1) (omega arith))
-
     pub backward-less : getD link (s - 1) 0 < s
-    backward-less = omega (arith, linked-before .upto)
+    backward-less = back-less _ _ link from (λ j. h .backed j (bucketOf key)) s g m
 
     pub backward-turns : receiveUnder l key (s - 1) ≡ false → Backwards l key from (getD link (s - 1) 0)
-    backward-turns e = goes-back _ _ _ s g (getD link (s - 1) 0) m (λ k. no-receive-in l key k) e linked-before
+    backward-turns = back-turns _ _ link from (λ j. h .backed j (bucketOf key)) s g m (λ k. no-receive-in l key k)
 
 -- ---- where to start
 

@@ -4,6 +4,8 @@ use native.Mathlib.Omega.{arith}
 use native.Mathlib.Decide.{decLt}
 use mathlib.Core.Path.{_≡_}
 use mathlib.Core.Bool.{Bool, true, false}
+use mathlib.Core.List.{List}
+use lib.ListN.{getD}
 use Rattle.chains.specs.Chains.{First, Last}
 
 -- ---- one more in front, one more behind
@@ -81,3 +83,18 @@ module _ (p q : ℕ → Bool) (from s : ℕ) (g : Going-back p q from s) where
   pub comes-back-out : s ≤ 0 → Last p from 0
   comes-back-out h =
       record { upto = omega arith; none = λ k a b. g .none k (omega arith) b; here = λ k z. absurd (omega arith) }
+
+-- a walk along links, each to the last before it that passes q, in search of one that passes p
+module _ (p q : ℕ → Bool) (link : List ℕ) (from : ℕ) (backed : (j : ℕ) → j < from → q j ≡ true → Last q j (getD link j 0)) where
+  pub back-begins : ((k : ℕ) → from ≡ suc k → q k ≡ true) → Going-back p q from from
+  back-begins here = record { high = omega arith; none = λ k a b. absurd (omega arith); on = here }
+
+  module _ (s : ℕ) (g : Going-back p q from s) (m : 0 < s) where
+    linked-before : Last q (s - 1) (getD link (s - 1) 0)
+    linked-before = backed (s - 1) (omega (arith, g .high)) (g .on (s - 1) (omega arith))
+
+    pub back-less : getD link (s - 1) 0 < s
+    back-less = omega (arith, linked-before .upto)
+
+    pub back-turns : ((k : ℕ) → q k ≡ false → p k ≡ false) → p (s - 1) ≡ false → Going-back p q from (getD link (s - 1) 0)
+    back-turns hidden e = goes-back p q from s g (getD link (s - 1) 0) m hidden e linked-before

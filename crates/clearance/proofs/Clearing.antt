@@ -56,13 +56,18 @@ module _ (n : ℕ) where
     names-nothing not-lenient = rw (ne-eqb n 1 not-strict, ne-eqb n 2 not-lenient)
 
 module _ (a : Asked) where
-  pub hears-no-switch : 1 < a .levels → heardOf Nothing ≡ heard a
+  pub hears-no-levels : 1 < a .levels → heardOf Nothing ≡ heard a
   unfolding heard heardOf
-  hears-no-switch h = rw (lt-leb (a .levels) 1 h)
+  hears-no-levels h = rw (lt-leb (a .levels) 1 h)
 
-  pub hears-choice : a .levels ≤ 1 → (h : Heard) → heardOf h ≡ choiceOf (a .choice) → heardOf h ≡ heard a
-  unfolding heard
-  hears-choice switch h e = rw (le-leb (a .levels) 1 switch) e
+  module _ (levels : a .levels ≤ 1) where
+    pub hears-no-statistics : 1 < a .statistics → heardOf Nothing ≡ heard a
+    unfolding heard heardOf
+    hears-no-statistics h = rw (le-leb (a .levels) 1 levels, lt-leb (a .statistics) 1 h)
+
+    pub hears-choice : a .statistics ≤ 1 → (h : Heard) → heardOf h ≡ choiceOf (a .choice) → heardOf h ≡ heard a
+    unfolding heard
+    hears-choice statistics h e = rw (le-leb (a .levels) 1 levels, le-leb (a .statistics) 1 statistics) e
 
 -- ---- 2 to 4
 

@@ -1,4 +1,4 @@
-// "1 to 4": what is asked of the choice and the levels' switch, the lent table, the number of lent times and the size of the trace.
+// "1 to 4": what is asked of the choice and the two switches, the lent table, the number of lent times and the size of the trace.
 ghost use mathlib.Core.Path.{_≡_};
 ghost use Rattle.paper.specs.Answer.{choiceOf, heard, lowLatencies};
 ghost use Rattle.clearance.specs.Clearance.{givenOf, heardOf, clearedUnder, clearance};
@@ -35,6 +35,9 @@ fn hear(asked: Asked) -> Heard
     ensures { λ r. ⌜ heardOf r ≡ heard asked ⌝ }
 {
     if 1 < asked.levels {
+        return Heard::Nothing;
+    }
+    if 1 < asked.statistics {
         return Heard::Nothing;
     }
     choice_of(asked.choice)

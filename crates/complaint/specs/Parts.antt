@@ -6,7 +6,7 @@ use lib.ListN.{take}
 use Rattle.named.specs.Parts.{cut, Within}
 use Rattle.named.specs.declared.Span.{Span}
 use Rattle.named.specs.declared.Name.{Name}
-use Rattle.named.specs.declared.Name.the-variants.{Choice, Trace, Table, Levels, Out}
+use Rattle.named.specs.declared.Name.the-variants.{Choice, Trace, Table, Levels, Statistics, Out}
 
 -- as much of a span as the line has and as is shown
 pub record ShownPart (line : List ℕ) (span part : Span) : Type 0 where
@@ -20,4 +20,5 @@ placeOf Choice = record { from = 0; to = 8 }
 placeOf Trace = record { from = 8; to = 15 }
 placeOf Table = record { from = 15; to = 22 }
 placeOf Levels = record { from = 22; to = 30 }
-placeOf Out = record { from = 30; to = 35 }
+placeOf Statistics = record { from = 30; to = 42 }
+placeOf Out = record { from = 42; to = 47 }

@@ -90,6 +90,7 @@ pub(crate) fn place_of(name: Name) -> Span
         Name::Trace => Span { from: 8, to: 15 },
         Name::Table => Span { from: 15, to: 22 },
         Name::Levels => Span { from: 22, to: 30 },
-        Name::Out => Span { from: 30, to: 35 },
+        Name::Statistics => Span { from: 30, to: 42 },
+        Name::Out => Span { from: 42, to: 47 },
     }
 }

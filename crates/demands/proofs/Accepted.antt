@@ -85,7 +85,7 @@ module _ (i : Inputs) (a : Accepted i) where
   passed-is = ap (λ (o : Outcome). o .answer .passed) (judge-accepted i a)
 
   pub along-trace : Reads (a .choice) (most (given i)) (linesOf (i .trace)) 1 start (entries i (a .choice)) (reading i (a .choice) .state)
-  along-trace = along (a .choice) (most (given i)) (i .trace) (a .matched .levelled .read .whole)
+  along-trace = along (a .choice) (most (given i)) (i .trace) (a .matched .compared .levelled .read .whole)
 
   passed-lines : reading i (a .choice) .state .passed ≡ passedIn (a .choice) (linesOf (i .trace))
   unfolding start
@@ -112,7 +112,7 @@ module _ (i : Inputs) (a : Accepted i) where
         moves = verdict-is .moves;
         consistent = rw matched-is (verdict-is .consistent);
         places = rw (times-are i a, length-append, length-drop)
-            (omega (arith, a .matched .levelled .read .begun .lengths .1, size i a, few-entries (a .choice) (most (given i)) (i .trace) (a .matched .levelled .read .whole)));
+            (omega (arith, a .matched .compared .levelled .read .begun .lengths .1, size i a, few-entries (a .choice) (most (given i)) (i .trace) (a .matched .compared .levelled .read .whole)));
         later = later;
         writes = rw corrected-are written-trace;
         written-length = rw corrected-are written-is;
@@ -121,4 +121,4 @@ module _ (i : Inputs) (a : Accepted i) where
       }
 
   pub accepted-answer : (choice : Choice) → Chosen i choice → AcceptedAnswer i choice
-  accepted-answer choice c = rw (one-choice i (a .choice) choice (a .matched .levelled .read .begun .chosen) c) at told
+  accepted-answer choice c = rw (one-choice i (a .choice) choice (a .matched .compared .levelled .read .begun .chosen) c) at told

@@ -2,16 +2,18 @@
 use Prim.Native.Nat.{ℕ, _≤_, _<_}
 use native.Mathlib.Omega.{arith}
 use mathlib.Core.Path.{_≡_, refl, sym, ap, _∙_}
+use mathlib.Core.Logic.{_⊎_, inl, inr}
 use mathlib.Core.Bool.{Bool, true, false}
 use mathlib.Core.List.{List}
-use lib.ListN.{length}
+use lib.ListN.{length, take}
 use lib.IntN.{ℤ}
 use lib.Signed.{<ℤ-irrefl}
 use Rattle.paper.specs.Clock.{timeAt}
 use Rattle.paper.specs.Reading.{State, Reading, linesOf, readOf, start}
 use Rattle.paper.specs.Levels.{levelsOf}
+use Rattle.paper.specs.Statistics.{statisticsOf}
 use Rattle.paper.specs.Written.{writtenFrom}
-use Rattle.paper.specs.Answer.{Inputs, given, most, longest, written as bytes}
+use Rattle.paper.specs.Answer.{Inputs, Outcome, given, most, longest, heard, judge, written as bytes}
 use Rattle.paper.specs.declared.Asked.{Asked}
 use Rattle.paper.specs.declared.Choice.{Choice}
 use Rattle.paper.specs.declared.Entry.{Entry}
@@ -20,12 +22,14 @@ use Rattle.matching.proofs.Times.{Alike, same-size, same-matched, same-matched-
 use Rattle.matching.proofs.Levels.{same-levels}
 use Rattle.reading.proofs.Bytes.{clean-lines}
 use Rattle.reading.proofs.Along.{along-back}
-use Rattle.demands.specs.Parts.{corrected, writtenTrace, written, time}
+use Rattle.demands.specs.Parts.{number, verdict, listed, corrected, writtenTrace, written, time}
 use Rattle.demands.specs.Steps.{Chosen, reading, entries, Accepted, original}
+use Rattle.demands.specs.Switched.{switchedOff}
 use Rattle.demands.specs.Demand3.{Allowed}
 use Rattle.demands.specs.Accepted.{Moved}
 use Rattle.demands.specs.Demand2.{SameButStamps, Again, Steady}
 use Rattle.demands.proofs.Tests.{same-most}
+use Rattle.demands.proofs.Switched.{heard-off, heard-low, levels-off, none-compared, nothing-else}
 use Rattle.demands.proofs.InOrder.{originals-range, originals-place}
 use Rattle.demands.proofs.Allowed.{sound-allowed, still}
 use Rattle.demands.proofs.Times.{one-choice, answer, size, listed-is, time-is}
@@ -53,7 +57,7 @@ module _ (i : Inputs) (a : Accepted i) where
 
   rise : Rises (start .last) es (a .times)
   rise =
-      let whole = a .matched .levelled .read .whole in
+      let whole = a .matched .compared .levelled .read .whole in
       rises es (a .times) (size i a) (originals-place choice (most (given i)) (i .trace) whole)
       (λ k l. between (original es k) (timeAt (a .times) k) (originals-range choice (most (given i)) (i .trace) whole k l) (allowed .above k l) (allowed .format k l))
       (allowed .order)
@@ -77,7 +81,7 @@ asked i e choice times = rw e
 pub stamps-only : (i : Inputs) (a : Accepted i) → i .wanted ≡ true → (choice : Choice) → Chosen i choice
     → SameButStamps choice (linesOf (i .trace)) (corrected i) (linesOf (writtenTrace i))
 stamps-only i a wanted choice c =
-    rw (one-choice i choice (a .choice) c (a .matched .levelled .read .begun .chosen), corrected-are i a, written-trace i a, asked i wanted (a .choice) (a .times))
+    rw (one-choice i choice (a .choice) c (a .matched .compared .levelled .read .begun .chosen), corrected-are i a, written-trace i a, asked i wanted (a .choice) (a .times))
     (same-but-stamps (along-trace i a) (clean-lines (i .trace)) (a .times) (size i a))
 
 module _ (i : Inputs) (a : Accepted i) (wanted : i .wanted ≡ true) (short : written i ≤ longest) (j : Inputs) (g : Again i j) where
@@ -110,24 +114,28 @@ module _ (i : Inputs) (a : Accepted i) (wanted : i .wanted ≡ true) (short : wr
   accepted : Accepted j
   accepted =
       let m = a .matched in
-      let begun = m .levelled .read .begun in
+      let begun = m .compared .levelled .read .begun in
       record {
         choice = a .choice;
         rounds = 0;
         times = a .times;
         matched = record {
-          levelled = record {
-            read = record {
-              begun = record {
-                chosen = rw (g .asked) (begun .chosen);
-                lengths = (rw (g .latencies) (begun .lengths .0), g .places ∙ begun .lengths .1 ∙ sym same-limit);
-                low = rw (g .latencies) (begun .low);
-                short = rw (g .trace, written-length i a) short;
+          compared = record {
+            levelled = record {
+              read = record {
+                begun = record {
+                  chosen = ap heard (g .asked) ∙ heard-off (i .asked) (heard-low (i .asked) (begun .chosen)) ∙ begun .chosen;
+                  lengths = (rw (g .latencies) (begun .lengths .0), g .places ∙ begun .lengths .1 ∙ sym same-limit);
+                  low = rw (g .latencies) (begun .low);
+                  short = rw (g .trace, written-length i a) short;
+                };
+                whole = ap (λ (r : Reading). r .stop) reading-is;
               };
-              whole = ap (λ (r : Reading). r .stop) reading-is;
+              levels = ap (λ (x : Asked). levelsOf x (entries j (a .choice))) (g .asked) ∙ levels-off (i .asked) (entries j (a .choice))
+                  ∙ same-levels (i .asked) (entries j (a .choice)) (es i a) alike-entries ∙ m .compared .levelled .levels;
             };
-            levels = ap (λ (x : Asked). levelsOf x (entries j (a .choice))) (g .asked)
-                ∙ same-levels (i .asked) (entries j (a .choice)) (es i a) alike-entries ∙ m .levelled .levels;
+            agree = ap (λ (x : Asked). statisticsOf x (j .trace) (entries j (a .choice))) (g .asked)
+                ∙ none-compared (i .asked) (j .trace) (entries j (a .choice));
           };
           matches = same-matched (entries j (a .choice)) (es i a) alike-entries ∙ m .matches;
         };
@@ -147,7 +155,7 @@ module _ (i : Inputs) (a : Accepted i) (wanted : i .wanted ≡ true) (short : wr
   unfolding accepted
   steady =
       let fs = entries j (a .choice) in
-      let chosen = accepted .matched .levelled .read .begun .chosen in
+      let chosen = accepted .matched .compared .levelled .read .begun .chosen in
       let told = accepted-answer j accepted (a .choice) chosen in
       let matches = matched-is j accepted ∙ same-matched-count fs (es i a) alike-entries ∙ sym (matched-is i a) in
       record {
@@ -163,3 +171,42 @@ module _ (i : Inputs) (a : Accepted i) (wanted : i .wanted ≡ true) (short : wr
         leaves = unreceived-is j accepted ∙ same-unreceived-count fs (es i a) alike-entries ∙ sym (unreceived-is i a);
         bytes = λ e. written-trace j accepted ∙ bytes-again e;
       }
+
+-- ---- and with the comparison on, where that finds no difference
+
+module _ (i j : Inputs) (on : j .asked .statistics ≤ 1) (same : judge j ≡ judge (switchedOff j)) (off : Steady i (switchedOff j)) where
+  same-verdict : verdict j ≡ verdict (switchedOff j)
+  same-verdict = ap (λ (o : Outcome). o .answer .verdict) same
+
+  same-listed : listed j ≡ listed (switchedOff j)
+  same-listed = ap (λ (o : Outcome). o .answer .listed) same
+
+  still-compared : (choice : Choice) → Chosen j choice → ¬ Moved j choice
+  unfolding most
+  still-compared choice c (k, l, less) =
+      let same-time : time j k ≡ time (switchedOff j) k = ap (λ (o : Outcome). timeAt (o .times) k) same in
+      off .still choice (heard-off (j .asked) on ∙ c) (k, omega (arith, l, same-listed), rw same-time at less)
+
+  steady-compared : Steady i j
+  steady-compared =
+      record {
+        accepted = ap (λ (o : Outcome). o .answer .number) same ∙ off .accepted;
+        times = ap (λ (o : Outcome). take (o .answer .listed) (o .times)) same ∙ off .times;
+        no-round = ap (λ (o : Outcome). o .answer .rounds) same ∙ off .no-round;
+        still = still-compared;
+        consistent = rw same-verdict (off .consistent);
+        nothing = rw same-verdict (off .nothing);
+        lists = same-listed ∙ off .lists;
+        passes = ap (λ (o : Outcome). o .answer .passed) same ∙ off .passes;
+        matches = ap (λ (o : Outcome). o .answer .matched) same ∙ off .matches;
+        leaves = ap (λ (o : Outcome). o .answer .unreceived) same ∙ off .leaves;
+        bytes = λ e. ap (λ (o : Outcome). take (o .answer .written) (o .room)) same ∙ off .bytes e;
+      }
+
+-- "demand 2's reading again has it off": on, it finds one, or nothing else changes
+pub again-on : (i j : Inputs) → j .asked .statistics ≡ 1 → Steady i (switchedOff j) → (number j ≡ 19) ⊎ Steady i j
+again-on i j on off = go (nothing-else j (omega arith))
+  where
+    go : (number j ≡ 19) ⊎ (judge j ≡ judge (switchedOff j)) → (number j ≡ 19) ⊎ Steady i j
+    go (inl e) = inl e
+    go (inr same) = inr (steady-compared i j (omega arith) same off)

@@ -54,5 +54,6 @@ module _ (i : Inputs) (s : Site) where
   row-carries Fault.NoTimes (choice, m, none-sound, e) = above-10 15 (s .column) (omega arith) (no-column e)
   row-carries Fault.NoRoom (choice, rounds, times, m, settles, wanted, l, e) = above-10 16 (s .column) (omega arith) (no-column e)
   row-carries Fault.OtherLevels (o, e) = above-10 17 (s .column) (omega arith) e
+  row-carries Fault.OtherStatistics (o, e) = above-10 19 (s .column) (omega arith) e
   row-carries Fault.SharedProcessor never = absurd never
   row-carries Fault.NoPlace never = absurd never

@@ -6,6 +6,7 @@ use mathlib.Core.Logic.{inl, inr}
 use mathlib.Core.Bool.{Bool, true, false, cond}
 use mathlib.Core.Option.{Option, none, some}
 use mathlib.Core.List.{List}
+use lib.ListN.{replicate}
 use lib.IntN.{ℤ, pos}
 use lib.Dec.{leb}
 use borrow.Author.Tests.{leb-true, leb-false}
@@ -27,7 +28,7 @@ use Rattle.demands.proofs.Tests.{Tells, not-told, untold, same-tells}
 module _ (form : List ℕ → Field) where
   -- of n fields from field j on, field m is the first wrong one
   abbrev WrongAt : ℕ → ℕ → Option (List ℕ) → ℕ → Type 0
-  WrongAt j n fields m = (k : ℕ) × FirstWrong form n fields k × (j + k ≡ m)
+  WrongAt j n fields m = (k : ℕ) × FirstWrong (replicate n form) fields k × (j + k ≡ m)
 
   module _ (j n m : ℕ) (l : List ℕ) where
     one-further : (v : ℤ) → form (field l) ≡ Good v → WrongAt (suc j) n (rest l) m → WrongAt j (suc n) (some l) m
@@ -50,12 +51,12 @@ module _ (form : List ℕ → Field) where
   values-wrong j (suc n) none m e = let z : j ≡ m = cc in (0, missing, omega arith)
   values-wrong j (suc n) (some l) m e = datum-wrong j n m l _ refl (values-wrong (suc j) n (rest l) m) (sym (took form l _ _) ∙ e)
 
-  wrong-values : (j : ℕ) {n k : ℕ} {fields : Option (List ℕ)} → FirstWrong form n fields k → valuesOf form j n fields ≡ wrong (j + k)
+  wrong-values : (j n : ℕ) {k : ℕ} {fields : Option (List ℕ)} → FirstWrong (replicate n form) fields k → valuesOf form j n fields ≡ wrong (j + k)
   unfolding valuesOf firstOf
-  wrong-values j too-many = ap wrong (omega arith)
-  wrong-values j missing = ap wrong (omega arith)
-  wrong-values j (bad-datum p) = rw p (ap wrong (omega arith))
-  wrong-values j (good-datum v p f) = rw (p, wrong-values (suc j) f) (ap wrong (omega arith))
+  wrong-values j zero too-many = ap wrong (omega arith)
+  wrong-values j (suc n) missing = ap wrong (omega arith)
+  wrong-values j (suc n) (bad-datum p) = rw p (ap wrong (omega arith))
+  wrong-values j (suc n) (good-datum v p f) = rw (p, wrong-values (suc j) n f) (ap wrong (omega arith))
 
 -- ---- what the numbers come to
 
@@ -146,5 +147,5 @@ row-data {n} {k} {fields} (above-limit h) = data-many n fields h
 row-data not-stated = refl
 row-data {n} (no-descriptor some-data few) = data-none n some-data few
 row-data {n} (bad-descriptor {l = l} some-data few two five) = data-some n some-data few l ∙ neither-described n l two five _ refl
-row-data {n} (bad-wholes {l = l} some-data few p f) = data-some n some-data few l ∙ rw (p, wrong-values wholeOf 7 f)
-row-data {n} (bad-times {l = l} some-data few p f) = data-some n some-data few l ∙ rw (p, wrong-values timeOf 7 f)
+row-data {n} (bad-wholes {l = l} some-data few p f) = data-some n some-data few l ∙ rw (p, wrong-values wholeOf 7 n f)
+row-data {n} (bad-times {l = l} some-data few p f) = data-some n some-data few l ∙ rw (p, wrong-values timeOf 7 n f)

@@ -2,6 +2,7 @@
 use mathlib.Core.Path.{sym, _∙_}
 use Rattle.matching.proofs.Own.{own-send}
 use Rattle.demands.specs.Steps.{entries}
+use Rattle.demands.specs.Switched.{switchedOff}
 use Rattle.demands.specs.Demand1.{Demand1}
 use Rattle.demands.specs.Demand2.{Demand2}
 use Rattle.demands.specs.Demand3.{Demand3}
@@ -9,7 +10,7 @@ use Rattle.demands.proofs.Exactly.{answered}
 use Rattle.demands.proofs.Refusals.{accepted-exactly, refused-exactly, column-exactly, refusal-keeps}
 use Rattle.demands.proofs.Accepted.{accepted-answer}
 use Rattle.demands.proofs.Sends.{sent}
-use Rattle.demands.proofs.Again.{stamps-only, steady}
+use Rattle.demands.proofs.Again.{stamps-only, steady, again-on}
 use Rattle.demands.proofs.Times.{earliest}
 use Rattle.demands.proofs.Impossible.{matched-number, impossible-exactly}
 use Rattle.demands.proofs.FirstLines.{times-stay}
@@ -34,6 +35,7 @@ demand-2 =
       own = λ i choice j k l. own-send (entries i choice) k l j;
       stamps = λ i choice c e wanted. stamps-only i (accepted-exactly i .0 e) wanted choice c;
       again = λ i e wanted short. steady i (accepted-exactly i .0 e) wanted short;
+      again-compared = λ i e wanted short j on g. again-on i j on (steady i (accepted-exactly i .0 e) wanted short (switchedOff j) g);
     }
 
 pub demand-3 : Demand3

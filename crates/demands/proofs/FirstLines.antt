@@ -65,12 +65,12 @@ waits-first table es later e =
 
 module _ (i j : Inputs) (longer : Longer i j) (a : Accepted i) (b : Accepted j) where
   whole-choice : b .choice ≡ a .choice
-  whole-choice = one-choice i (b .choice) (a .choice) (rw (longer .asked) at (b .matched .levelled .read .begun .chosen)) (a .matched .levelled .read .begun .chosen)
+  whole-choice = one-choice i (b .choice) (a .choice) (rw (longer .asked) at (b .matched .compared .levelled .read .begun .chosen)) (a .matched .compared .levelled .read .begun .chosen)
 
   whole-entries : (later : List Entry) × (entries j (a .choice) ≡ entries i (a .choice) ++ later)
   whole-entries =
-      more-entries (a .choice) (most (given i)) (most (given j)) (i .trace) (longer .more) (j .trace) (longer .trace) (a .matched .levelled .read .whole)
-      (rw whole-choice at (b .matched .levelled .read .whole))
+      more-entries (a .choice) (most (given i)) (most (given j)) (i .trace) (longer .more) (j .trace) (longer .trace) (a .matched .compared .levelled .read .whole)
+      (rw whole-choice at (b .matched .compared .levelled .read .whole))
 
   pub times-stay : (k : ℕ) → k < listed i → time i k ≡ time j k
   unfolding waitsOf

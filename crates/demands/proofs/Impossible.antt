@@ -60,7 +60,7 @@ module _ (i : Inputs) where
       to : number i ≡ 15 → (x : ℕ → ℤ) → Allowed (i .latencies) (entries i choice) x → ⊥
       to e =
           let (c, n, none-sound) = impossible-matched e in
-          let same : c ≡ choice = one-choice i c choice (n .levelled .read .begun .chosen) (m .levelled .read .begun .chosen) in
+          let same : c ≡ choice = one-choice i c choice (n .compared .levelled .read .begun .chosen) (m .compared .levelled .read .begun .chosen) in
           λ x a. (rw same at none-sound) x (allowed-sound (i .latencies) (entries i choice) a)
 
       of : ((x : ℕ → ℤ) → Allowed (i .latencies) (entries i choice) x → ⊥) → number i ≡ 15

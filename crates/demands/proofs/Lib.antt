@@ -1,4 +1,4 @@
--- `Demands` has the three theorems; the files before it what they need, from the tests up.
+-- `Demands` has the three theorems, and `Switched` one on the comparison of statistics; the other files what they need, from the tests up.
 pub mod Tests
 pub mod Numbers
 pub mod Stops
@@ -6,11 +6,14 @@ pub mod Reached
 pub mod Judged
 pub mod Columns
 pub mod DataRows
+pub mod PairRows
 pub mod MessageRows
 pub mod LineRows
 pub mod InOrder
 pub mod GoodLines
 pub mod LevelRows
+pub mod StatisticsRows
+pub mod OwnPairs
 pub mod ReceiveRows
 pub mod Said
 pub mod Closed
@@ -18,6 +21,7 @@ pub mod Rows
 pub mod Exactly
 pub mod ColumnRows
 pub mod Refusals
+pub mod Switched
 pub mod Recorded
 pub mod Allowed
 pub mod Times

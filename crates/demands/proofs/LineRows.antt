@@ -6,12 +6,12 @@ use mathlib.Core.Logic.{inl, inr}
 use mathlib.Core.Bool.{Bool, true, false, cond, _&&_}
 use mathlib.Core.Option.{Option, none, some}
 use mathlib.Core.List.{List}
-use lib.IntN.{pos}
+use lib.IntN.{ℤ, pos}
 use Rattle.paper.specs.Numbers.{numberOf}
-use Rattle.paper.specs.Tests.{eqZ, upTo}
+use Rattle.paper.specs.Tests.{eqZ, upTo, minus, oneOf}
 use Rattle.paper.specs.Forms.{wholeOf, timeOf}
-use Rattle.paper.specs.Events.{listedKind, standingOf}
-use Rattle.paper.specs.Line.{field, after, rest, fieldsAbove, countOf, Begun, bad, six, sixOf, headOf, goodEnd, unknown, stepOver, unlisted, placed, misplaced, partOf, messageOf, lacking, roleOf, withRole, withData, onPlace, listedLine, sorted, begun, lineOf}
+use Rattle.paper.specs.Events.{listedKind, isStatistics, standingFor, sendEvents, receiveEvents}
+use Rattle.paper.specs.Line.{field, after, rest, fieldsAbove, countOf, Begun, bad, six, sixOf, headOf, goodEnd, unknown, stepOver, unlisted, dataOf, pairsFor, asPairs, valuesIn, placed, misplaced, partOf, messageOf, lacking, roleOf, withRole, withData, onPlace, listedLine, sorted, begun, lineOf}
 use Rattle.paper.specs.declared.Choice.{Choice}
 use Rattle.paper.specs.declared.Choice.the-variants.{Strict, Lenient}
 use Rattle.paper.specs.declared.Data.{Data}
@@ -32,9 +32,10 @@ use Rattle.paper.specs.declared.Values.{Values}
 use Rattle.paper.specs.declared.Values.the-variants as Values
 use Rattle.forms.proofs.Tests.{never}
 use Rattle.reading.proofs.Sixes.{readAs, after₂, after₃, after₄, after₅, head-read}
-use Rattle.demands.specs.Rows.{sixForms, FirstBad, here, later, Six, Unlisted, by-kind, by-event, ListedHead, OnPlace, dataIn, BadForm, few-fields, bad-field, bad-end, bad-data, BadStamp, UnlistedStrict, NotHandled, OffPlace, processor-outside, process-not-0, BadPlace, NoMessage}
+use Rattle.demands.specs.Rows.{sixForms, FirstBad, here, later, Six, Unlisted, by-kind, by-event, ListedHead, OnPlace, dataIn, BadForm, few-fields, bad-field, bad-end, bad-data, bad-pairs, BadStamp, UnlistedStrict, NotHandled, OffPlace, processor-outside, process-not-0, BadPlace, NoMessage}
 use Rattle.demands.proofs.Tests.{untold, not-told, same-tells}
 use Rattle.demands.proofs.DataRows.{data-row, row-data}
+use Rattle.demands.proofs.PairRows.{pairs-row, row-pairs}
 use Rattle.demands.proofs.MessageRows.{lacks, lacks-back}
 
 -- the row of a line that is refused for this, and the field that decides; no line is refused for anything else
@@ -75,6 +76,30 @@ place-off : {h : Head} {k : ℕ} → OffPlace h k → (placed (h .processor) (h 
 unfolding placed misplaced
 place-off (processor-outside t) = (rw t, rw t)
 place-off (process-not-0 t other) = (rw (t, not-told (same-tells _ _) other), rw t)
+
+-- ---- the two kinds of data
+
+module _ (kind : ℤ) where
+  -- a send is an entry and a receive an exit, and so no statistics
+  no-statistics : (event : ℤ) → ¬ (partOf kind event ≡ Part.Neither) → isStatistics kind ≡ false
+  unfolding partOf isStatistics oneOf
+  no-statistics event h = go (eqZ kind (minus 3)) refl (eqZ kind (minus 4)) refl h
+    where
+      go : (t : Bool) → eqZ kind (minus 3) ≡ t → (u : Bool) → eqZ kind (minus 4) ≡ u
+          → ¬ (cond (t && oneOf sendEvents event) Part.Sends (cond (u && oneOf receiveEvents event) Part.Receives Part.Neither) ≡ Part.Neither)
+          → isStatistics kind ≡ false
+      go true t u q h = rw (same-tells kind (minus 3) .holds t)
+      go false t true q h = rw (same-tells kind (minus 4) .holds q)
+      go false t false q h = absurd (h refl)
+
+  module _ (n : ℕ) (fields : Option (List ℕ)) where
+    plain-data : isStatistics kind ≡ false → valuesIn kind n fields ≡ dataOf n fields
+    unfolding valuesIn
+    plain-data e = rw e
+
+    paired-data : isStatistics kind ≡ true → valuesIn kind n fields ≡ asPairs (pairsFor kind n fields)
+    unfolding valuesIn
+    paired-data e = rw e
 
 -- ---- the six fields
 
@@ -147,7 +172,8 @@ module _ (choice : Choice) (l : List ℕ) (fault : Fault) (spot : Spot) where
     lacks-row : (values : Data) → dataIn (p .six) ≡ Values.Good values → ¬ (partOf (p .six .head .kind) (p .six .head .event) ≡ Part.Neither)
         → messageOf values ≡ none → RowIn choice l Fault.NoMessage (Spot.Field (lacking (p .six .head) values))
     lacks-row values is part m =
-        message-row (record { place = p; values = values; well-formed = is; sends-or-receives = part; lacks = lacks (p .six .head) (p .six .fields) values is m })
+        let good = sym (plain-data _ _ _ (no-statistics _ _ part)) ∙ is in
+        message-row (record { place = p; values = values; well-formed = is; sends-or-receives = part; lacks = lacks (p .six .head) (p .six .fields) values good m })
 
     role-row : (values : Data) → dataIn (p .six) ≡ Values.Good values → (x : Part) → partOf (p .six .head .kind) (p .six .head .event) ≡ x
         → (o : Option Message) → messageOf values ≡ o → withRole (p .six .head) (p .processor) values (roleOf x values) ≡ Refused fault spot
@@ -159,10 +185,17 @@ module _ (choice : Choice) (l : List ℕ) (fault : Fault) (spot : Spot) where
     role-row values is Part.Receives part none m e = same-row choice l (rw m at e) (lacks-row values is (λ q. never (cc)) m)
     role-row values is Part.Receives part (some x) m e = let f = rw m at e in never (cc)
 
+    bad-values-row : (k : ℕ) → dataIn (p .six) ≡ Values.Bad k → RowIn choice l Fault.Form (Spot.Field k)
+    bad-values-row k is = go (isStatistics (p .six .head .kind)) refl
+      where
+        go : (t : Bool) → isStatistics (p .six .head .kind) ≡ t → RowIn choice l Fault.Form (Spot.Field k)
+        go true t = form-row (bad-pairs p k t (pairs-row _ _ _ k (sym (paired-data _ _ _ t) ∙ is)))
+        go false t = form-row (bad-data p k t (data-row _ _ k (sym (plain-data _ _ _ t) ∙ is)))
+
     values-row : (d : Values) → dataIn (p .six) ≡ d
         → withData (p .six .head) (p .processor) (partOf (p .six .head .kind) (p .six .head .event)) d ≡ Refused fault spot → RowIn choice l fault spot
     unfolding withData
-    values-row (Values.Bad k) is e = same-row choice l e (form-row (bad-data p k (data-row _ _ k is)))
+    values-row (Values.Bad k) is e = same-row choice l e (bad-values-row k is)
     values-row (Values.Good values) is e = role-row values is _ refl _ refl e
 
   listed-row : (s : Six l) → ListedHead (s .head) → listedLine (s .head) (s .fields) ≡ Refused fault spot → RowIn choice l fault spot
@@ -174,7 +207,7 @@ module _ (choice : Choice) (l : List ℕ) (fault : Fault) (spot : Spot) where
       go none q e = same-row choice l e (place-row (s, h, off-place (s .head) q))
       go (some processor) q e = values-row (record { six = s; listed = h; processor = processor; place = q }) _ refl e
 
-  sorted-row : (s : Six l) → listedKind (s .head .kind) ≡ true → (x : Standing) → standingOf (s .head .event) ≡ x
+  sorted-row : (s : Six l) → listedKind (s .head .kind) ≡ true → (x : Standing) → standingFor (s .head .kind) (s .head .event) ≡ x
       → sorted choice (s .head) (s .fields) x ≡ Refused fault spot → RowIn choice l fault spot
   unfolding sorted
   sorted-row s k Standing.NotHandled q e = same-row choice l e (handled-row (s, k, q, refl))
@@ -187,7 +220,7 @@ module _ (choice : Choice) (l : List ℕ) (fault : Fault) (spot : Spot) where
   six-row s e = go (listedKind (s .head .kind)) refl e
     where
       go : (t : Bool) → listedKind (s .head .kind) ≡ t
-          → cond t (sorted choice (s .head) (s .fields) (standingOf (s .head .event))) (unlisted choice (s .head) (s .fields)) ≡ Refused fault spot
+          → cond t (sorted choice (s .head) (s .fields) (standingFor (s .head .kind) (s .head .event))) (unlisted choice (s .head) (s .fields)) ≡ Refused fault spot
           → RowIn choice l fault spot
       go true k e = sorted-row s k _ refl e
       go false k e = unlisted-row s 0 (by-kind k) e
@@ -227,7 +260,8 @@ module _ (choice : Choice) (l : List ℕ) where
   form-line k (few-fields e) = bad-line Fault.Form 5 (rw e)
   form-line k (bad-field j p f h) = bad-line Fault.Form j (row-field l p j f h)
   form-line k (bad-end s j u e) = unlisted-line s j u ∙ rw e
-  form-line k (bad-data p j b) = placed-line p ∙ rw (row-data b)
+  form-line k (bad-data p j t b) = placed-line p ∙ rw (plain-data _ _ _ t ∙ row-data b)
+  form-line k (bad-pairs p j t b) = placed-line p ∙ rw (paired-data _ _ _ t ∙ row-pairs _ b)
 
   module _ (p : OnPlace l) where
     without : (values : Data) → messageOf values ≡ none → (x : Part) → ¬ (x ≡ Part.Neither)
@@ -240,7 +274,8 @@ module _ (choice : Choice) (l : List ℕ) where
   message-line : (k : ℕ) → NoMessage l k → lineOf choice l ≡ Refused Fault.NoMessage (Spot.Field k)
   unfolding withData
   message-line k n =
-      let (no-message, field) = lacks-back (n .place .six .head) (n .place .six .fields) (n .values) (n .well-formed) k (n .lacks) in
+      let good = sym (plain-data _ _ _ (no-statistics _ _ (n .sends-or-receives))) ∙ n .well-formed in
+      let (no-message, field) = lacks-back (n .place .six .head) (n .place .six .fields) (n .values) good k (n .lacks) in
       placed-line (n .place) ∙ rw (n .well-formed) (without (n .place) (n .values) no-message _ (n .sends-or-receives) ∙ rw field)
 
   pub row-refused : {fault : Fault} {spot : Spot} → RowIn choice l fault spot → lineOf choice l ≡ Refused fault spot

@@ -15,7 +15,7 @@ faultOf n =
     (Fault.BadChoice ∷ Fault.BadChoice ∷ Fault.WrongLength ∷ Fault.HighLatency ∷ Fault.LongTrace ∷ Fault.Form ∷ Fault.Stamp
     ∷ Fault.Unlisted ∷ Fault.NotHandled ∷ Fault.Place ∷ Fault.NoMessage ∷ Fault.Backwards ∷ Fault.TooMany ∷ Fault.NoSend
     ∷ Fault.LongReceive ∷ Fault.NoTimes ∷ Fault.NoRoom ∷ Fault.OtherLevels ∷ Fault.SharedProcessor
-    ∷ Fault.BadChoice ∷ Fault.BadChoice ∷ Fault.BadChoice ∷ Fault.NoPlace ∷ [])
+    ∷ Fault.OtherStatistics ∷ Fault.BadChoice ∷ Fault.BadChoice ∷ Fault.NoPlace ∷ [])
     n Fault.BadChoice
 
 back : (fault : Fault) → faultOf (numberOf fault) ≡ fault
@@ -38,6 +38,7 @@ back Fault.NoTimes = refl
 back Fault.NoRoom = refl
 back Fault.OtherLevels = refl
 back Fault.SharedProcessor = refl
+back Fault.OtherStatistics = refl
 back Fault.NoPlace = refl
 
 pub one-fault : (a b : Fault) → numberOf a ≡ numberOf b → a ≡ b

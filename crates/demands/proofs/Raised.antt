@@ -3,10 +3,12 @@ use Prim.Native.Nat.{ℕ, _+_, _*_, _≤_, _<_}
 use native.Mathlib.Omega.{arith}
 use native.Mathlib.Decide.{decLt}
 use mathlib.Core.Path.{_≡_, refl, sym, ap, _∙_}
+use mathlib.Core.List.{List}
 use lib.ListN.{length, getD, List·getD-eq-default}
 use lib.Signed.{_≤ℤ_}
 use Rattle.paper.specs.Clock.{settled, settle}
 use Rattle.paper.specs.Levels.{levelsOf}
+use Rattle.paper.specs.Statistics.{statisticsOf}
 use Rattle.paper.specs.Matching.{entryAt, latencyFor, waitsOf}
 use Rattle.paper.specs.Reading.{Reading, readOf}
 use Rattle.paper.specs.Answer.{Inputs, given, most}
@@ -70,20 +72,25 @@ module _ (i j : Inputs) (raised : Raised i j) where
     -- the earlier checks pass under the new table too
     matched-too : Matched i choice → Matched j choice
     matched-too m =
-        let read = m .levelled .read in
+        let read = m .compared .levelled .read in
         record {
-          levelled = record {
-            read = record {
-              begun = record {
-                chosen = rw (raised .asked) (read .begun .chosen);
-                lengths = (raised .to .size, places ∙ read .begun .lengths .1 ∙ sym same-limit);
-                low = raised .to .low;
-                short = rw (raised .trace) (read .begun .short);
+          compared = record {
+            levelled = record {
+              read = record {
+                begun = record {
+                  chosen = rw (raised .asked) (read .begun .chosen);
+                  lengths = (raised .to .size, places ∙ read .begun .lengths .1 ∙ sym same-limit);
+                  low = raised .to .low;
+                  short = rw (raised .trace) (read .begun .short);
+                };
+                whole = rw same-reading (read .whole);
               };
-              whole = rw same-reading (read .whole);
+              levels = ap (λ (x : Asked). levelsOf x (entries j choice)) (raised .asked) ∙ ap (levelsOf (i .asked)) same-entries
+                  ∙ m .compared .levelled .levels;
             };
-            levels = ap (λ (x : Asked). levelsOf x (entries j choice)) (raised .asked) ∙ ap (levelsOf (i .asked)) same-entries
-                ∙ m .levelled .levels;
+            agree = ap (λ (x : Asked). statisticsOf x (j .trace) (entries j choice)) (raised .asked)
+                ∙ ap (λ (s : List ℕ). statisticsOf (i .asked) s (entries j choice)) (raised .trace)
+                ∙ ap (statisticsOf (i .asked) (i .trace)) same-entries ∙ m .compared .agree;
           };
           matches = rw same-entries (m .matches);
         }
@@ -106,9 +113,9 @@ module _ (i j : Inputs) (raised : Raised i j) where
   pub none-earlier : (a : Accepted i) (b : Accepted j) → (k : ℕ) → k < listed i → time i k ≤ℤ time j k
   unfolding waitsOf
   none-earlier a b k l =
-      let same : b .choice ≡ a .choice = one-choice i (b .choice) (a .choice) (rw (raised .asked) at (b .matched .levelled .read .begun .chosen)) (a .matched .levelled .read .begun .chosen) in
+      let same : b .choice ≡ a .choice = one-choice i (b .choice) (a .choice) (rw (raised .asked) at (b .matched .compared .levelled .read .begun .chosen)) (a .matched .compared .levelled .read .begun .chosen) in
       let same-records : entries j (a .choice) ≡ entries i (a .choice) =
-      same-whole (a .choice) (a .matched .levelled .read) (rw same at (b .matched .levelled .read .whole)) in
+      same-whole (a .choice) (a .matched .compared .levelled .read) (rw same at (b .matched .compared .levelled .read .whole)) in
       let inside : k < length (entries i (a .choice)) = rw (← listed-is i a) l in
       let settles-new : settle (waits j (a .choice)) ≡ settled (b .rounds) (b .times) = rw (← same) (b .settles) in
       rw (time-is i a k inside, time-is j b k (rw (same, same-records) inside))

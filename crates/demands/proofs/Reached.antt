@@ -7,15 +7,16 @@ use mathlib.Core.List.{List}
 use lib.IntN.{ℤ}
 use Rattle.paper.specs.Columns.{nowhere}
 use Rattle.paper.specs.Levels.{levelsOf}
+use Rattle.paper.specs.Statistics.{statisticsOf}
 use Rattle.paper.specs.Matching.{matchedOf}
 use Rattle.paper.specs.Clock.{impossible, settled, settle}
-use Rattle.paper.specs.Answer.{Inputs, given, heard, Found, stopped, found, reach, onChoice, onRead, onLevels, onMatched, onSettled}
+use Rattle.paper.specs.Answer.{Inputs, given, heard, Found, stopped, found, reach, onChoice, onRead, onLevels, onStatistics, onMatched, onSettled}
 use Rattle.paper.specs.declared.Choice.{Choice}
 use Rattle.paper.specs.declared.Fault.{Fault}
 use Rattle.paper.specs.declared.Fault.the-variants as Fault
 use Rattle.paper.specs.declared.Site.{Site}
-use Rattle.demands.specs.Steps.{Chosen, RightLengths, LowLatencies, ShortTrace, Begun, reading, entries, Read, Levelled, Matched, waits}
-use Rattle.demands.proofs.Stops.{BadLine, BadLevels, BadReceive}
+use Rattle.demands.specs.Steps.{Chosen, RightLengths, LowLatencies, ShortTrace, Begun, reading, entries, Read, Levelled, Compared, Matched, waits}
+use Rattle.demands.proofs.Stops.{BadLine, BadLevels, BadStatistics, BadReceive}
 use Rattle.demands.proofs.Tests.{not-told, lengths-tell, lows-tell, short-tells}
 
 -- what a call has found that settles so
@@ -50,13 +51,18 @@ module _ (i : Inputs) where
     unfolding onRead
     reach-read r = reach-begun (r .begun) ∙ ap (onRead (given i) choice (reading i choice)) (r .whole)
 
-    reach-levelled : Levelled i choice → reach (given i) ≡ onMatched (given i) choice (reading i choice) (matchedOf (entries i choice))
+    reach-levelled : Levelled i choice
+        → reach (given i) ≡ onStatistics (given i) choice (reading i choice) (statisticsOf (i .asked) (i .trace) (entries i choice))
     unfolding onLevels
     reach-levelled l = reach-read (l .read) ∙ ap (onLevels (given i) choice (reading i choice)) (l .levels)
 
+    reach-compared : Compared i choice → reach (given i) ≡ onMatched (given i) choice (reading i choice) (matchedOf (entries i choice))
+    unfolding onStatistics
+    reach-compared c = reach-levelled (c .levelled) ∙ ap (onStatistics (given i) choice (reading i choice)) (c .agree)
+
     reach-matched : Matched i choice → reach (given i) ≡ onSettled choice (reading i choice) (settle (waits i choice))
     unfolding onMatched
-    reach-matched m = reach-levelled (m .levelled) ∙ ap (onMatched (given i) choice (reading i choice)) (m .matches)
+    reach-matched m = reach-compared (m .compared) ∙ ap (onMatched (given i) choice (reading i choice)) (m .matches)
 
     pub reach-times : Matched i choice → settle (waits i choice) ≡ impossible → reach (given i) ≡ stopped Fault.NoTimes nowhere
     unfolding onSettled
@@ -75,6 +81,11 @@ module _ (i : Inputs) where
   unfolding onLevels
   reach-levels fault s b = reach-read (b .choice) (b .read) ∙ ap (onLevels (given i) (b .choice) (reading i (b .choice))) (b .calls)
 
+  pub reach-statistics : (fault : Fault) (s : Site) → BadStatistics i fault s → reach (given i) ≡ stopped fault s
+  unfolding onStatistics
+  reach-statistics fault s b =
+      reach-levelled (b .choice) (b .levelled) ∙ ap (onStatistics (given i) (b .choice) (reading i (b .choice))) (b .calls)
+
   pub reach-receive : (fault : Fault) (s : Site) → BadReceive i fault s → reach (given i) ≡ stopped fault s
   unfolding onMatched
-  reach-receive fault s b = reach-levelled (b .choice) (b .levelled) ∙ ap (onMatched (given i) (b .choice) (reading i (b .choice))) (b .calls)
+  reach-receive fault s b = reach-compared (b .choice) (b .compared) ∙ ap (onMatched (given i) (b .choice) (reading i (b .choice))) (b .calls)

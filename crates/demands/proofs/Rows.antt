@@ -12,6 +12,7 @@ use lib.Dec.{leb}
 use Rattle.paper.specs.Numbers.{numberOf}
 use Rattle.paper.specs.Columns.{nowhere}
 use Rattle.paper.specs.Levels.{levelsOf}
+use Rattle.paper.specs.Statistics.{statisticsOf}
 use Rattle.paper.specs.Matching.{matchedOf}
 use Rattle.paper.specs.Clock.{Settled, impossible, settled, settle}
 use Rattle.paper.specs.Answer.{Inputs, given, longest, heard, rightLengths, lowLatencies, stopped, reach}
@@ -22,7 +23,7 @@ use Rattle.paper.specs.declared.Site.{Site}
 use Rattle.paper.specs.declared.Stop.{Stop}
 use Rattle.paper.specs.declared.Stop.the-variants.{End, At}
 use Rattle.rounds.proofs.Meaning.{impossible-iff}
-use Rattle.demands.specs.Steps.{Chosen, RightLengths, LowLatencies, Begun, reading, entries, Read, Levelled, Matched, waits}
+use Rattle.demands.specs.Steps.{Chosen, RightLengths, LowLatencies, Begun, reading, entries, Read, Levelled, Compared, Matched, waits}
 use Rattle.demands.specs.Rows.{BadForm, BadStamp, UnlistedStrict, NotHandled, BadPlace, NoMessage, NoSend, LongReceive}
 use Rattle.demands.specs.Table.{When}
 use Rattle.demands.proofs.Stops.{OfALine, BadLine}
@@ -30,8 +31,8 @@ use Rattle.demands.proofs.Tests.{untold, lengths-tell, lows-tell, short
 use Rattle.demands.proofs.Closed.{waits-closed}
 use Rattle.demands.proofs.LineRows.{form-row, stamp-row, strict-row, handled-row, place-row, message-row}
 use Rattle.demands.proofs.ReceiveRows.{no-send-calls, long-receive-calls}
-use Rattle.demands.proofs.Said.{end-stops, field-stops, backwards-stops, many-stops, levels-stop, call-stops, when-line, when-levels, when-receive}
-use Rattle.demands.proofs.Reached.{reach-choice, reach-length, reach-latency, reach-long, reach-line, reach-levels, reach-receive, reach-times}
+use Rattle.demands.proofs.Said.{end-stops, field-stops, backwards-stops, many-stops, levels-stop, statistics-stop, call-stops, when-line, when-levels, when-statistics, when-receive}
+use Rattle.demands.proofs.Reached.{reach-choice, reach-length, reach-latency, reach-long, reach-line, reach-levels, reach-statistics, reach-receive, reach-times}
 
 -- a call that has times
 pub record Timed (i : Inputs) : Type 0 where
@@ -53,13 +54,18 @@ module _ (i : Inputs) where
     on-times m impossible e = inr (Fault.NoTimes, nowhere, (choice, m, impossible-iff (waits i choice) (waits-closed (i .latencies) (entries i choice)) .0 e, refl))
     on-times m (settled rounds times) e = inl (record { choice = choice; rounds = rounds; times = times; matched = m; settles = e })
 
-    on-receives : Levelled i choice → (s : Stop) → matchedOf (entries i choice) ≡ s → Timed i ⊎ Row
-    on-receives l End e = on-times (record { levelled = l; matches = e }) _ refl
-    on-receives l (At fault s) e =
-        inr (fault, s, when-receive i fault s (record { choice = choice; levelled = l; calls = e }))
+    on-receives : Compared i choice → (s : Stop) → matchedOf (entries i choice) ≡ s → Timed i ⊎ Row
+    on-receives c End e = on-times (record { compared = c; matches = e }) _ refl
+    on-receives c (At fault s) e =
+        inr (fault, s, when-receive i fault s (record { choice = choice; compared = c; calls = e }))
+
+    on-statistics : Levelled i choice → (s : Stop) → statisticsOf (i .asked) (i .trace) (entries i choice) ≡ s → Timed i ⊎ Row
+    on-statistics l End e = on-receives (record { levelled = l; agree = e }) _ refl
+    on-statistics l (At fault s) e =
+        inr (fault, s, when-statistics i fault s (record { choice = choice; levelled = l; calls = e }))
 
     on-levels : Read i choice → (s : Stop) → levelsOf (i .asked) (entries i choice) ≡ s → Timed i ⊎ Row
-    on-levels r End e = on-receives (record { read = r; levels = e }) _ refl
+    on-levels r End e = on-statistics (record { read = r; levels = e }) _ refl
     on-levels r (At fault s) e =
         inr (fault, s, when-levels i fault s (record { choice = choice; read = r; calls = e }))
 
@@ -115,6 +121,7 @@ module _ (i : Inputs) where
   row-line Fault.NoRoom s (low, high) w = absurd (omega arith)
   row-line Fault.OtherLevels s (low, high) w = absurd (omega arith)
   row-line Fault.SharedProcessor s n w = absurd w
+  row-line Fault.OtherStatistics s (low, high) w = absurd (omega arith)
   row-line Fault.NoPlace s n w = absurd w
 
   of-line : (fault : Fault) (s : Site) → OfALine fault → When i fault s → (reach (given i) ≡ stopped fault s) ⊎ (fault ≡ Fault.NoRoom)
@@ -136,6 +143,7 @@ module _ (i : Inputs) where
   row-stops Fault.TooMany s w = of-line Fault.TooMany s (omega arith, omega arith) w
   row-stops Fault.OtherLevels s (o, e) = inl (reach-levels i Fault.OtherLevels s (levels-stop i s o e))
   row-stops Fault.SharedProcessor s never = absurd never
+  row-stops Fault.OtherStatistics s (o, e) = inl (reach-statistics i Fault.OtherStatistics s (statistics-stop i s o e))
   row-stops Fault.NoPlace s never = absurd never
   row-stops Fault.NoSend s (f, e) = inl (reach-receive i Fault.NoSend s (call-stops i s Fault.NoSend NoSend no-send-calls f e))
   row-stops Fault.LongReceive s (f, e) = inl (reach-receive i Fault.LongReceive s (call-stops i s Fault.LongReceive LongReceive long-receive-calls f e))

@@ -1,4 +1,5 @@
--- Rows 5 to 14 and 17 as the table says them are where the reading stops, where the levels do and where the matching does.
+-- Rows 5 to 14, 17 and 19 as the table says them are where the reading stops, where the levels do, where the statistics and where the
+-- matching.
 use Prim.Native.Nat.{ℕ, _<_}
 use mathlib.Core.Path.{_≡_, refl, sym, ap, _∙_}
 use mathlib.Core.Logic.{inl, inr}
@@ -8,6 +9,7 @@ use lib.ListN.{length}
 use Rattle.paper.specs.Columns.{columnOf, columnIn, inLine, wholeLine}
 use Rattle.paper.specs.Reading.{Lines, done, unended, ended, linesOf, readOf}
 use Rattle.paper.specs.Levels.{levelsOf}
+use Rattle.paper.specs.Statistics.{statisticsOf}
 use Rattle.paper.specs.Matching.{entryAt, matchedOf}
 use Rattle.paper.specs.Answer.{Inputs, given, most}
 use Rattle.paper.specs.declared.Choice.{Choice}
@@ -20,16 +22,18 @@ use Rattle.paper.specs.declared.Spot.the-variants as Spot
 use Rattle.paper.specs.declared.Stop.the-variants.{At}
 use Rattle.matching.specs.Belongs.{processor}
 use Rattle.matching.proofs.Calls.{callAt, FirstCall, first-call-at, at-first-call}
-use Rattle.demands.specs.Steps.{Begun, reading, entries, Read, Levelled}
+use Rattle.demands.specs.Steps.{Begun, reading, entries, Read, Levelled, Compared}
 use Rattle.demands.specs.Before.{Good, ComesTo, AtLine}
 use Rattle.demands.specs.Levels.{OtherLevels, AtLevels}
+use Rattle.demands.specs.Statistics.{OtherStatistics, NoDifference}
 use Rattle.demands.specs.Rows.{BadForm, BadStamp, UnlistedStrict, NotHandled, BadPlace, NoMessage, Backwards, TooMany, NoSend, LongReceive, FirstReceive}
 use Rattle.demands.specs.Table.{InField, NoEnd, When}
-use Rattle.demands.proofs.Stops.{site-is, OfALine, BadLine, BadLevels, BadReceive}
+use Rattle.demands.proofs.Stops.{site-is, OfALine, BadLine, BadLevels, BadStatistics, BadReceive}
 use Rattle.demands.proofs.LineRows.{RowIn, form-row, stamp-row, strict-row, handled-row, place-row, message-row}
 use Rattle.demands.proofs.GoodLines.{StopsOn, no-end, in-line, backwards, too-many, stops-number, Stopped, stops-there, ends-there, stopped-there}
 use Rattle.demands.proofs.InOrder.{originals-place}
 use Rattle.demands.proofs.LevelRows.{levels-row, levels-none}
+use Rattle.demands.proofs.StatisticsRows.{statistics-row, statistics-none}
 use Rattle.demands.proofs.ReceiveRows.{RowAt, send-row, length-row, call-row, nothing-called, called-not}
 
 module _ (i : Inputs) where
@@ -99,6 +103,28 @@ module _ (i : Inputs) where
   all-levelled n c h =
       record { read = all-read n c; levels = all-levels n c ∙ levels-none (i .asked) (c .before) (all-places n c) .1 h }
 
+  -- what their statistics come to
+  all-statistics : (n : ℕ) (c : ComesTo i n done)
+      → statisticsOf (i .asked) (i .trace) (entries i (c .choice)) ≡ statisticsOf (i .asked) (i .trace) (c .before)
+  all-statistics n c = ap (statisticsOf (i .asked) (i .trace)) (all-entries n c)
+
+  pub statistics-stop : (s : Site) → OtherStatistics i (s .line) → s .column ≡ 0 → BadStatistics i Fault.OtherStatistics s
+  statistics-stop s o e =
+      let row = statistics-row (i .asked) (i .trace) (o .comes .before) Fault.OtherStatistics s in
+      record {
+        choice = o .comes .choice;
+        levelled = all-levelled (o .end) (o .comes) (o .levels);
+        calls = all-statistics (o .end) (o .comes) ∙ row .1 (refl, o .differs, e);
+      }
+
+  all-compared : (n : ℕ) (c : ComesTo i n done) → AtLevels (i .asked) (c .before) → NoDifference (i .asked) (i .trace) (c .before)
+      → Compared i (c .choice)
+  all-compared n c levels statistics =
+      record {
+        levelled = all-levelled n c levels;
+        agree = all-statistics n c ∙ statistics-none (i .asked) (i .trace) (c .before) .1 statistics;
+      }
+
   pub call-stops : (s : Site) (fault : Fault) (calls : List Entry → ℕ → Type 0) → ((es : List Entry) (k : ℕ) → calls es k → callAt es k ≡ some fault)
       → FirstReceive i (s .line) calls → s .column ≡ 0 → BadReceive i fault s
   call-stops s fault calls means f e =
@@ -107,7 +133,7 @@ module _ (i : Inputs) where
       record { within = f .within; calls = means es (f .place) (f .is); none-before = λ k l. nothing-called es k (f .first k l) } in
       record {
         choice = f .comes .choice;
-        levelled = all-levelled (f .end) (f .comes) (f .levels);
+        compared = all-compared (f .end) (f .comes) (f .levels) (f .statistics);
         calls = ap matchedOf (all-entries (f .end) (f .comes)) ∙ first-call-at es (f .place) fault call
             ∙ ap (At fault) (sym (site-is s (entryAt es (f .place) .line) 0 (sym (f .its-line)) e));
       }
@@ -163,13 +189,30 @@ module _ (i : Inputs) where
       let (same, d, whole) = levels-row (i .asked) es (all-places end c) fault s .0 (sym (all-levels end c) ∙ b .calls) in
       rw same (record { end = end; comes = c; decides = d }, whole)
 
-  module _ (n end : ℕ) (c : ComesTo i end done) (levels : AtLevels (i .asked) (c .before)) (k : ℕ) (line : entryAt (c .before) k .line ≡ n) where
+  -- the records of a call that passes 17
+  module _ (choice : Choice) (l : Levelled i choice) where
+    its-records : (end : ℕ) × (c : ComesTo i end done) × (c .choice ≡ choice) × AtLevels (i .asked) (c .before)
+    its-records =
+        let (end, es, good) = all-good choice (l .read) in
+        let c : ComesTo i end done = record { choice = choice; begun = l .read .begun; before = es; good = good } in
+        (end, c, refl, levels-none (i .asked) es (all-places end c) .0 (sym (all-levels end c) ∙ l .levels))
+
+  pub when-statistics : (fault : Fault) (s : Site) → BadStatistics i fault s → When i fault s
+  unfolding When
+  when-statistics fault s b =
+      let (end, c, its-choice, levels) = its-records (b .choice) (b .levelled) in
+      let calls = rw (← its-choice) at (b .calls) in
+      let (same, d, whole) = statistics-row (i .asked) (i .trace) (c .before) fault s .0 (sym (all-statistics end c) ∙ calls) in
+      rw same (record { end = end; comes = c; levels = levels; differs = d }, whole)
+
+  module _ (n end : ℕ) (c : ComesTo i end done) (levels : AtLevels (i .asked) (c .before)) (statistics : NoDifference (i .asked) (i .trace) (c .before)) (k : ℕ) (line : entryAt (c .before) k .line ≡ n) where
     first-call : {fault : Fault} → FirstCall (c .before) k fault → (calls : List Entry → ℕ → Type 0) → calls (c .before) k → FirstReceive i n calls
     first-call f calls is =
         record {
           end = end;
           comes = c;
           levels = levels;
+          statistics = statistics;
           place = k;
           within = f .within;
           its-line = line;
@@ -184,8 +227,9 @@ module _ (i : Inputs) where
 
   pub when-receive : (fault : Fault) (s : Site) → BadReceive i fault s → When i fault s
   when-receive fault s b =
-      let (end, es, good) = all-good (b .choice) (b .levelled .read) in
-      let c : ComesTo i end done = record { choice = b .choice; begun = b .levelled .read .begun; before = es; good = good } in
-      let levels = levels-none (i .asked) es (all-places end c) .0 (sym (all-levels end c) ∙ b .levelled .levels) in
-      let (k, f, site) = at-first-call es fault s (sym (ap matchedOf (all-entries end c)) ∙ b .calls) in
-      rw (← site) (when-called _ end c levels k refl (call-row es k fault (f .calls)) f)
+      let (end, c, its-choice, levels) = its-records (b .choice) (b .compared .levelled) in
+      let agree = rw (← its-choice) at (b .compared .agree) in
+      let statistics = statistics-none (i .asked) (i .trace) (c .before) .0 (sym (all-statistics end c) ∙ agree) in
+      let calls = rw (← its-choice) at (b .calls) in
+      let (k, f, site) = at-first-call (c .before) fault s (sym (ap matchedOf (all-entries end c)) ∙ calls) in
+      rw (← site) (when-called _ end c levels statistics k refl (call-row (c .before) k fault (f .calls)) f)

@@ -1,8 +1,8 @@
--- Tests and the plain facts that they tell: of signed numbers, and those of 1 to 4.
+-- Tests and the plain facts that they tell: of signed numbers, of texts, and those of 1 to 4.
 use Prim.Native.Nat.{ℕ, zero, suc, _≤_, _<_}
 use native.Mathlib.Omega.{arith}
 use mathlib.Core.Path.{_≡_, refl}
-use mathlib.Core.Bool.{Bool, true, false, cond}
+use mathlib.Core.Bool.{Bool, true, false, cond, _&&_, not}
 use mathlib.Core.Logic.{inl, inr}
 use mathlib.Core.Option.{Option, none}
 use mathlib.Core.List.{List, [], _∷_}
@@ -11,10 +11,12 @@ use lib.IntN.{ℤ}
 use lib.Dec.{leb}
 use borrow.Author.Tests.{eqb-true, eq-eqb, ne-eqb, leb-true, leb-false, le-leb, lt-leb}
 use Rattle.paper.specs.Tests.{eqZ}
+use Rattle.paper.specs.Text.{isSame}
 use Rattle.paper.specs.Answer.{Given, Inputs, given, most, longest, choiceOf, heard, rightLengths, lowLatencies}
 use Rattle.paper.specs.declared.Asked.{Asked}
 use Rattle.paper.specs.declared.Choice.{Choice}
 use Rattle.forms.proofs.Tests.{both, never}
+use Rattle.forms.proofs.Texts.{same-self, same-means}
 use Rattle.matching.proofs.Keys.{eqZ-true, eqZ-same}
 use Rattle.demands.specs.Steps.{Unheard, RightLengths, LowLatencies, ShortTrace}
 
@@ -30,8 +32,24 @@ not-told {b = false} t h = refl
 pub untold : {b : Bool} {P : Type 0} → Tells b P → b ≡ false → ¬ P
 untold t e p = let yes-it = t .told p in never (cc)
 
+-- a part of a test, and the other way round
+pub both-tell : {b c : Bool} {P Q : Type 0} → Tells b P → Tells c Q → Tells (b && c) (P × Q)
+both-tell {b} {c} t u =
+    record { holds = λ e. let (f, g) = both b c e in (t .holds f, u .holds g); told = λ (p, q). rw (t .told p, u .told q) }
+
+pub not-tells : {b : Bool} {P : Type 0} → Tells b P → Tells (not b) (¬ P)
+not-tells {b = true} t = record { holds = λ e. never (cc); told = λ h. absurd (h (t .holds refl)) }
+not-tells {b = false} t = record { holds = λ e. untold t refl; told = λ h. refl }
+
+-- the same fact in other words
+pub in-words : {b : Bool} {P Q : Type 0} → (P → Q) → (Q → P) → Tells b P → Tells b Q
+in-words to of t = record { holds = λ e. to (t .holds e); told = λ q. t .told (of q) }
+
 pub same-tells : (a b : ℤ) → Tells (eqZ a b) (a ≡ b)
 same-tells a b = record { holds = eqZ-true a b; told = λ e. rw e (eqZ-same b) }
+
+pub text-tells : (a b : List ℕ) → Tells (isSame a b) (a ≡ b)
+text-tells a b = record { holds = same-means a b; told = λ e. rw e (same-self b) }
 
 pub lengths-tell : (i : Inputs) → Tells (rightLengths (given i)) (RightLengths i)
 unfolding rightLengths
@@ -59,22 +77,28 @@ pub short-tells : (i : Inputs) → Tells (leb (length (i .trace)) longest) (Shor
 short-tells i = record { holds = leb-true _ _; told = le-leb _ _ }
 
 -- 1
+nothing-either-way : (t : Bool) → _≡_ {A = Option Choice} (cond t none none) none
+nothing-either-way true = refl
+nothing-either-way false = refl
+
 pub unchosen : (a : Asked) → Unheard a → heard a ≡ none
 unfolding heard choiceOf
-unchosen a (inl (one, two)) = rw (ne-eqb (a .choice) 1 one, ne-eqb (a .choice) 2 two) (go (leb (a .levels) 1))
+unchosen a (inl (one, two)) = rw (ne-eqb (a .choice) 1 one, ne-eqb (a .choice) 2 two) (nothing-either-way (leb (a .levels) 1 && leb (a .statistics) 1))
+unchosen a (inr (inl (off, on))) = rw (lt-leb (a .levels) 1 (omega arith))
+unchosen a (inr (inr (off, on))) = rw (lt-leb (a .statistics) 1 (omega arith)) (go (leb (a .levels) 1))
   where
-    go : (t : Bool) → _≡_ {A = Option Choice} (cond t none none) none
+    go : (t : Bool) → cond (t && false) (choiceOf (a .choice)) none ≡ none
     go true = refl
     go false = refl
-unchosen a (inr (off, on)) = rw (lt-leb (a .levels) 1 (omega arith))
 
 pub neither : (a : Asked) → heard a ≡ none → Unheard a
 unfolding heard choiceOf
-neither a e = go (leb (a .levels) 1) refl e
+neither a e = go (leb (a .levels) 1) refl (leb (a .statistics) 1) refl e
   where
-    go : (t : Bool) → leb (a .levels) 1 ≡ t → cond t (choiceOf (a .choice)) none ≡ none → Unheard a
-    go true t e = inl (λ p. let h = rw p at e in never (cc), λ p. let h = rw p at e in never (cc))
-    go false t e = let more = leb-false (a .levels) 1 t in inr (λ p. omega arith, λ p. omega arith)
+    go : (t : Bool) → leb (a .levels) 1 ≡ t → (u : Bool) → leb (a .statistics) 1 ≡ u → cond (t && u) (choiceOf (a .choice)) none ≡ none → Unheard a
+    go true t true u e = inl (λ p. let h = rw p at e in never (cc), λ p. let h = rw p at e in never (cc))
+    go true t false u e = let more = leb-false (a .statistics) 1 u in inr (inr (λ p. omega arith, λ p. omega arith))
+    go false t u w e = let more = leb-false (a .levels) 1 t in inr (inl (λ p. omega arith, λ p. omega arith))
 
 -- how many records may be listed does not look at the trace or at the table
 pub same-most : (g h : Given) → g .places ≡ h .places → most g ≡ most h

@@ -57,4 +57,4 @@ module _ (i : Inputs) (a : Accepted i) where
       })
 
   pub earliest : (choice : Choice) → Chosen i choice → Earliest (i .latencies) (entries i choice) (time i)
-  earliest choice c = rw (one-choice i (a .choice) choice (a .matched .levelled .read .begun .chosen) c) at earliest-is
+  earliest choice c = rw (one-choice i (a .choice) choice (a .matched .compared .levelled .read .begun .chosen) c) at earliest-is

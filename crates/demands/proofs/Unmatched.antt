@@ -36,9 +36,9 @@ module _ (i : Inputs) (choice : Choice) (m : Matched i choice) (none-matched : m
   originals-allowed : Allowed (i .latencies) (entries i choice) (original (entries i choice))
   originals-allowed =
       record {
-        format = λ k l. range-limit (original (entries i choice) k) (originals-range choice (most (given i)) (i .trace) (m .levelled .read .whole) k l);
+        format = λ k l. range-limit (original (entries i choice) k) (originals-range choice (most (given i)) (i .trace) (m .compared .levelled .read .whole) k l);
         above = λ k l. ≤ℤ-refl (original (entries i choice) k);
-        order = originals-order choice (most (given i)) (i .trace) (m .levelled .read .whole);
+        order = originals-order choice (most (given i)) (i .trace) (m .compared .levelled .read .whole);
         clock = λ j k l e. absurd (no-receive (entries i choice) none-matched j k l e);
       }
 

@@ -3,7 +3,7 @@
 -- limit, gives those times and moves none."
 use Prim.Native.Nat.{ℕ, _≤_, _<_}
 use mathlib.Core.Path.{_≡_}
-use mathlib.Core.Logic.{_↔_}
+use mathlib.Core.Logic.{_⊎_, _↔_}
 use mathlib.Core.Bool.{true}
 use mathlib.Core.Option.{some}
 use mathlib.Core.List.{List, [], _∷_, _++_}
@@ -24,6 +24,7 @@ use Rattle.forms.specs.Free.{Free}
 use Rattle.matching.specs.Belongs.{role, Belongs}
 use Rattle.demands.specs.Parts.{number, verdict, listed, passed, matched, unreceived, rounds, written, corrected, writtenTrace}
 use Rattle.demands.specs.Steps.{Chosen, entries, Matched}
+use Rattle.demands.specs.Switched.{uncompared, switchedOff}
 use Rattle.demands.specs.Accepted.{Moved, AcceptedAnswer}
 
 -- ---- each receive and its send
@@ -57,11 +58,12 @@ pub data SameButStamps (choice : Choice) : Lines → List ℤ → Lines → Type
 
 -- ---- reading it again
 
--- j reads what i wrote, "under that table and choice", and "under the same four numbers" of the levels
+-- j reads what i wrote, "under that table and choice", and "under the same four numbers" of the levels; of the comparison of statistics:
+-- "demand 2's reading again has it off, since moved times needn't agree"
 pub record Again (i j : Inputs) : Type 0 where
   pub trace : j .trace ≡ writtenTrace i
   pub latencies : j .latencies ≡ i .latencies
-  pub asked : j .asked ≡ i .asked
+  pub asked : j .asked ≡ uncompared (i .asked)
   pub places : length (j .times) ≡ length (i .times)
   pub room : j .wanted ≡ true → written i ≤ length (j .room)
 
@@ -93,3 +95,6 @@ pub record Demand2 : Type 0 where
       → SameButStamps choice (linesOf (i .trace)) (corrected i) (linesOf (writtenTrace i))
   -- "reading it again .., if it is within the size limit, gives those times and moves none"
   pub again : (i : Inputs) → number i ≡ 0 → i .wanted ≡ true → written i ≤ longest → (j : Inputs) → Again i j → Steady i j
+  -- and with the comparison on, all else as there, it differs in nothing but 19
+  pub again-compared : (i : Inputs) → number i ≡ 0 → i .wanted ≡ true → written i ≤ longest → (j : Inputs) → j .asked .statistics ≡ 1
+      → Again i (switchedOff j) → (number j ≡ 19) ⊎ Steady i j

@@ -39,8 +39,8 @@ pub record Earliest (table : List ℕ) (es : List Entry) (x : ℕ → ℤ) : Typ
 
 -- ---- other calls; what they are lent, and whether the trace is to be written, may differ
 
--- "the first lines of a trace .. and the whole .., under one table and one choice", and the same numbers for the levels: j has more bytes
--- behind i's trace
+-- "the first lines of a trace .. and the whole .., under one table and one choice", and the same numbers for the levels and the statistics:
+-- j has more bytes behind i's trace
 pub record Longer (i j : Inputs) : Type 0 where
   pub more : List ℕ
   pub trace : j .trace ≡ i .trace ++ more

@@ -3,10 +3,12 @@ pub mod Parts
 pub mod Steps
 pub mod Before
 pub mod Levels
+pub mod Statistics
 pub mod Rows
 pub mod Table
 pub mod Records
 pub mod Accepted
+pub mod Switched
 pub mod Demand1
 pub mod Demand2
 pub mod Demand3

@@ -1,19 +1,20 @@
 -- Rows 5 to 14 of document 01's table: what is bad in a line, given without its LF, and in a receive. What "Within a line" looks at
 -- earlier is good in each row. Rows 5 to 10 name the field that decides, counted from 0: "After document 01's order the leftmost fault
 -- decides; a field too many is one."
-use Prim.Native.Nat.{ℕ, suc, _+_, _≤_, _<_}
+use Prim.Native.Nat.{ℕ, zero, suc, _+_, _≤_, _<_}
 use mathlib.Core.Path.{_≡_}
 use mathlib.Core.Logic.{_⊎_}
-use mathlib.Core.Bool.{true, false}
+use mathlib.Core.Bool.{true, false, cond}
 use mathlib.Core.Option.{Option, none, some}
 use mathlib.Core.List.{List, [], _∷_}
-use lib.ListN.{length}
+use lib.ListN.{length, replicate}
 use lib.IntN.{ℤ, pos}
 use lib.Signed.{_≤ℤ_, _<ℤ_}
-use Rattle.paper.specs.Tests.{upTo}
+use Rattle.paper.specs.Tests.{eqZ, upTo, minus}
+use Rattle.paper.specs.Text.{bytesOf}
 use Rattle.paper.specs.Forms.{wholeOf, timeOf}
-use Rattle.paper.specs.Events.{listedKind, standingOf}
-use Rattle.paper.specs.Line.{field, after, rest, fieldsAbove, countOf, six, headOf, goodEnd, dataOf, placed, partOf, lineOf}
+use Rattle.paper.specs.Events.{listedKind, isStatistics, standingFor}
+use Rattle.paper.specs.Line.{field, after, rest, fieldsAbove, countOf, six, headOf, goodEnd, dataOf, toldFor, valuesIn, placed, partOf, lineOf}
 use Rattle.paper.specs.Reading.{done}
 use Rattle.paper.specs.Matching.{entryAt}
 use Rattle.paper.specs.Answer.{Inputs}
@@ -36,6 +37,7 @@ use Rattle.paper.specs.declared.Values.the-variants as Values
 use Rattle.matching.specs.Belongs.{role, Belongs}
 use Rattle.demands.specs.Before.{Below, ComesTo}
 use Rattle.demands.specs.Levels.{AtLevels}
+use Rattle.demands.specs.Statistics.{NoDifference}
 
 -- ---- the six fields
 
@@ -57,14 +59,16 @@ pub record Six (l : List ℕ) : Type 0 where
 
 -- ---- a line's standing
 
--- its record type is unlisted, or else its event type
+-- its record type is unlisted, or else its event type, of which statistics may have any
 pub data Unlisted (h : Head) : ℕ → Type 0 where
   by-kind : listedKind (h .kind) ≡ false → Unlisted h 0
-  by-event : listedKind (h .kind) ≡ true → standingOf (h .event) ≡ Standing.Unlisted → Unlisted h 1
+  by-event : listedKind (h .kind) ≡ true → standingFor (h .kind) (h .event) ≡ Standing.Unlisted → Unlisted h 1
 
 -- both are listed
 abbrev pub ListedHead : Head → Type 0
-ListedHead h = (listedKind (h .kind) ≡ true) × ((standingOf (h .event) ≡ Standing.Listed) ⊎ (standingOf (h .event) ≡ Standing.Message))
+ListedHead h =
+    (listedKind (h .kind) ≡ true)
+    × ((standingFor (h .kind) (h .event) ≡ Standing.Listed) ⊎ (standingFor (h .kind) (h .event) ≡ Standing.Message))
 
 -- a listed record, on a processor from 0 to 63 and in process 0
 pub record OnPlace (l : List ℕ) : Type 0 where
@@ -76,15 +80,15 @@ pub record OnPlace (l : List ℕ) : Type 0 where
 -- ---- its data
 
 abbrev pub dataIn : {l : List ℕ} → Six l → Values
-dataIn s = dataOf (s .head .count) (s .fields)
+dataIn s = valuesIn (s .head .kind) (s .head .count) (s .fields)
 
--- of n data, left to right: the one at place k is the first that is bad or missing, or the first too many
-pub data FirstWrong (form : List ℕ → Field) : ℕ → Option (List ℕ) → ℕ → Type 0 where
-  too-many : {l : List ℕ} → FirstWrong form 0 (some l) 0
-  missing : {n : ℕ} → FirstWrong form (suc n) none 0
-  bad-datum : {n : ℕ} {l : List ℕ} → form (field l) ≡ Bad → FirstWrong form (suc n) (some l) 0
-  good-datum : {n : ℕ} {l : List ℕ} {k : ℕ} (v : ℤ) → form (field l) ≡ Good v → FirstWrong form n (rest l) k
-      → FirstWrong form (suc n) (some l) (suc k)
+-- of fields in these forms, left to right: the one at place k is the first that is bad or missing, or the first too many
+pub data FirstWrong : List (List ℕ → Field) → Option (List ℕ) → ℕ → Type 0 where
+  too-many : {l : List ℕ} → FirstWrong [] (some l) 0
+  missing : {form : List ℕ → Field} {forms : List (List ℕ → Field)} → FirstWrong (form ∷ forms) none 0
+  bad-datum : {form : List ℕ → Field} {forms : List (List ℕ → Field)} {l : List ℕ} → form (field l) ≡ Bad → FirstWrong (form ∷ forms) (some l) 0
+  good-datum : {form : List ℕ → Field} {forms : List (List ℕ → Field)} {l : List ℕ} {k : ℕ} (v : ℤ) → form (field l) ≡ Good v
+      → FirstWrong forms (rest l) k → FirstWrong (form ∷ forms) (some l) (suc k)
 
 -- "the limit of 16 and the data", of n data and the fields behind the six
 pub data BadData : ℕ → Option (List ℕ) → ℕ → Type 0 where
@@ -96,10 +100,31 @@ pub data BadData : ℕ → Option (List ℕ) → ℕ → Type 0 where
   -- "2 (each datum a whole number) or 5 (each datum in the form of a time)"
   bad-descriptor : {n : ℕ} {l : List ℕ} → 0 < n → n ≤ 16 → ¬ (wholeOf (field l) ≡ Good (pos 2)) → ¬ (wholeOf (field l) ≡ Good (pos 5))
       → BadData n (some l) 6
-  bad-wholes : {n : ℕ} {l : List ℕ} {k : ℕ} → 0 < n → n ≤ 16 → wholeOf (field l) ≡ Good (pos 2) → FirstWrong wholeOf n (rest l) k
+  bad-wholes : {n : ℕ} {l : List ℕ} {k : ℕ} → 0 < n → n ≤ 16 → wholeOf (field l) ≡ Good (pos 2) → FirstWrong (replicate n wholeOf) (rest l) k
       → BadData n (some l) (7 + k)
-  bad-times : {n : ℕ} {l : List ℕ} {k : ℕ} → 0 < n → n ≤ 16 → wholeOf (field l) ≡ Good (pos 5) → FirstWrong timeOf n (rest l) k
+  bad-times : {n : ℕ} {l : List ℕ} {k : ℕ} → 0 < n → n ≤ 16 → wholeOf (field l) ≡ Good (pos 5) → FirstWrong (replicate n timeOf) (rest l) k
       → BadData n (some l) (7 + k)
+
+-- ---- the data of a statistics line
+
+-- "The descriptor is the quoted text "%d%lf" for times, or "%d%d" for the other two", by the record type
+abbrev pub textFor : ℤ → List ℕ
+textFor kind = cond (eqZ kind (minus 101)) (bytesOf "\"%d%lf\"") (bytesOf "\"%d%d\"")
+
+-- n pairs, each an event and what is told of it
+abbrev pub pairForms : (List ℕ → Field) → ℕ → List (List ℕ → Field)
+pairForms told zero = []
+pairForms told (suc n) = wholeOf ∷ told ∷ pairForms told n
+
+-- what is bad in n pairs, with the fields behind the six
+pub data BadPairs (kind : ℤ) : ℕ → Option (List ℕ) → ℕ → Type 0 where
+  -- "the data count counts pairs, at most 16"
+  pairs-above-limit : {n : ℕ} {fields : Option (List ℕ)} → 16 < n → BadPairs kind n fields 5
+  pairs-not-stated : {l : List ℕ} → BadPairs kind 0 (some l) 6
+  no-text : {n : ℕ} → 0 < n → n ≤ 16 → BadPairs kind n none 6
+  other-text : {n : ℕ} {l : List ℕ} → 0 < n → n ≤ 16 → ¬ (field l ≡ textFor kind) → BadPairs kind n (some l) 6
+  bad-pair : {n : ℕ} {l : List ℕ} {k : ℕ} → 0 < n → n ≤ 16 → field l ≡ textFor kind → FirstWrong (pairForms (toldFor kind) n) (rest l) k
+      → BadPairs kind n (some l) (7 + k)
 
 -- ---- 5 to 10
 
@@ -112,7 +137,10 @@ pub data BadForm (l : List ℕ) : ℕ → Type 0 where
   -- "the end of an unlisted line"
   bad-end : (s : Six l) (k : ℕ) → Unlisted (s .head) k → goodEnd (s .head .count) (s .fields) ≡ false → BadForm l 6
   -- "for a listed one the limit of 16 and the data"
-  bad-data : (p : OnPlace l) (k : ℕ) → BadData (p .six .head .count) (p .six .fields) k → BadForm l k
+  bad-data : (p : OnPlace l) (k : ℕ) → isStatistics (p .six .head .kind) ≡ false → BadData (p .six .head .count) (p .six .fields) k → BadForm l k
+  -- and of a statistics line
+  bad-pairs : (p : OnPlace l) (k : ℕ) → isStatistics (p .six .head .kind) ≡ true
+      → BadPairs (p .six .head .kind) (p .six .head .count) (p .six .fields) k → BadForm l k
 
 -- 6, "form of the timestamp"
 abbrev pub BadStamp : List ℕ → ℕ → Type 0
@@ -124,7 +152,8 @@ UnlistedStrict choice l k = (s : Six l) × Unlisted (s .head) k × (goodEnd (s .
 
 -- 8, "message event not handled"
 abbrev pub NotHandled : List ℕ → ℕ → Type 0
-NotHandled l k = (s : Six l) × (listedKind (s .head .kind) ≡ true) × (standingOf (s .head .event) ≡ Standing.NotHandled) × (k ≡ 1)
+NotHandled l k =
+    (s : Six l) × (listedKind (s .head .kind) ≡ true) × (standingFor (s .head .kind) (s .head .event) ≡ Standing.NotHandled) × (k ≡ 1)
 
 -- "processor outside 0 to 63 or process not 0"
 pub data OffPlace (h : Head) : ℕ → Type 0 where
@@ -172,12 +201,14 @@ NoSend es k = (m : Message) × (role es k ≡ Receive m) × ((j : ℕ) → ¬ Be
 abbrev pub LongReceive : List Entry → ℕ → Type 0
 LongReceive es k = (j : ℕ) × (b : Belongs es k j) × (b .sent .length < b .received .length)
 
--- "then the first receive in file order that calls for 13 or 14": all lines are good, 17 is not called for, and it calls for this
+-- "then the first receive in file order that calls for 13 or 14": all lines are good, neither 17 nor 19 is called for, and it calls for
+-- this
 pub record FirstReceive (i : Inputs) (line : ℕ) (calls : List Entry → ℕ → Type 0) : Type 0 where
   -- one more than there are lines
   pub end : ℕ
   pub comes : ComesTo i end done
   pub levels : AtLevels (i .asked) (comes .before)
+  pub statistics : NoDifference (i .asked) (i .trace) (comes .before)
   pub place : ℕ
   pub within : place < length (comes .before)
   pub its-line : entryAt (comes .before) place .line ≡ line

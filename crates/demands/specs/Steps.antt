@@ -1,4 +1,4 @@
--- How far a call comes: the checks that it passes, in document 01's order, with 17 between the lines and 13.
+-- How far a call comes: the checks that it passes, in document 01's order, with 17 and then 19 between the lines and 13.
 use Prim.Native.Nat.{ℕ, _≤_, _<_}
 use mathlib.Core.Path.{_≡_}
 use mathlib.Core.Logic.{_⊎_}
@@ -8,6 +8,7 @@ use lib.ListN.{length, getD}
 use lib.IntN.{ℤ}
 use Rattle.paper.specs.Reading.{Reading, readOf}
 use Rattle.paper.specs.Levels.{levelsOf}
+use Rattle.paper.specs.Statistics.{statisticsOf}
 use Rattle.paper.specs.Matching.{entryAt, matchedOf, waitsOf}
 use Rattle.paper.specs.Clock.{Waits, settle, settled}
 use Rattle.paper.specs.Answer.{Inputs, given, most, longest, heard, written}
@@ -21,9 +22,12 @@ use Rattle.paper.specs.declared.Stop.the-variants.{End}
 abbrev pub Chosen : Inputs → Choice → Type 0
 Chosen i choice = heard (i .asked) ≡ some choice
 
--- and where 1 does not pass: "choice is neither 1 (strict) nor 2 (lenient)", or the levels are neither "0 for off .. or 1 for on"
+-- and where 1 does not pass: "choice is neither 1 (strict) nor 2 (lenient)", or the levels are neither "0 for off .. or 1 for on", or the
+-- statistics neither "0 for off or 1 for on"
 abbrev pub Unheard : Asked → Type 0
-Unheard a = ((¬ (a .choice ≡ 1)) × (¬ (a .choice ≡ 2))) ⊎ ((¬ (a .levels ≡ 0)) × (¬ (a .levels ≡ 1)))
+Unheard a =
+    ((¬ (a .choice ≡ 1)) × (¬ (a .choice ≡ 2)))
+    ⊎ (((¬ (a .levels ≡ 0)) × (¬ (a .levels ≡ 1))) ⊎ ((¬ (a .statistics ≡ 0)) × (¬ (a .statistics ≡ 1))))
 
 abbrev pub RightLengths : Inputs → Type 0
 RightLengths i = (length (i .latencies) ≡ 4096) × (length (i .times) ≡ most (given i))
@@ -65,11 +69,18 @@ pub record Levelled (i : Inputs) (choice : Choice) : Type 0 where
   pub read : Read i choice
   pub levels : levelsOf (i .asked) (entries i choice) ≡ End
 
+-- ---- "after the line checks and 17, before 13", 19
+
+-- no statistics line calls for it
+pub record Compared (i : Inputs) (choice : Choice) : Type 0 where
+  pub levelled : Levelled i choice
+  pub agree : statisticsOf (i .asked) (i .trace) (entries i choice) ≡ End
+
 -- ---- "then the first receive .. that calls for 13 or 14"
 
 -- no receive does
 pub record Matched (i : Inputs) (choice : Choice) : Type 0 where
-  pub levelled : Levelled i choice
+  pub compared : Compared i choice
   pub matches : matchedOf (entries i choice) ≡ End
 
 -- ---- "then 15; then 16"

@@ -1,5 +1,5 @@
--- Document 01's table of numbers, with 17 of the first change request and 18 of the sixth, row by row: "given exactly when", with the line
--- and, as the fifth one asks, the column. Each row has the checks before it passed.
+-- Document 01's table of numbers, with 17 of the first change request, 18 of the sixth and 19 of the eighth, row by row: "given exactly
+-- when", with the line and, as the fifth one asks, the column. Each row has the checks before it passed.
 use Prim.Native.Nat.{ℕ, _<_}
 use mathlib.Core.Path.{_≡_}
 use mathlib.Core.Logic.{_⊎_}
@@ -18,6 +18,7 @@ use Rattle.paper.specs.declared.Site.{Site}
 use Rattle.demands.specs.Steps.{Chosen, Unheard, RightLengths, LowLatencies, ShortTrace, Matched, waits}
 use Rattle.demands.specs.Before.{ComesTo, AtLine}
 use Rattle.demands.specs.Levels.{OtherLevels}
+use Rattle.demands.specs.Statistics.{OtherStatistics}
 use Rattle.demands.specs.Rows.{BadForm, BadStamp, UnlistedStrict, NotHandled, BadPlace, NoMessage, Backwards, TooMany, NoSend, LongReceive, FirstReceive}
 
 -- a line that is bad in a field, and the column where that begins
@@ -34,7 +35,8 @@ pub record NoEnd (i : Inputs) (site : Site) : Type 0 where
   pub column : site .column ≡ pastEnd line
 
 unfoldable pub When : Inputs → Fault → Site → Type 0
--- "choice is neither 1 (strict) nor 2 (lenient)"; of the levels "0 for off .. or 1 for on; any other is refusal 1"
+-- "choice is neither 1 (strict) nor 2 (lenient)"; of the levels "0 for off .. or 1 for on; any other is refusal 1"; of the statistics "0 for
+-- off or 1 for on, otherwise refusal 1"
 When i Fault.BadChoice site = Unheard (i .asked) × (site ≡ nowhere)
 -- "table or times of the wrong length"
 When i Fault.WrongLength site = (choice : Choice) × Chosen i choice × (¬ RightLengths i) × (site ≡ nowhere)
@@ -63,6 +65,8 @@ When i Fault.TooMany site =
     (at : AtLine i (site .line)) × TooMany (most (given i)) (at .comes .before) (at .comes .choice) (at .line) × (site .column ≡ 0)
 -- "a processor with listed records has no such mark, or its last one differs from the expected three"
 When i Fault.OtherLevels site = OtherLevels i (site .line) × (site .column ≡ 0)
+-- "A difference is refusal 19 at the first statistics line in the file that has one"
+When i Fault.OtherStatistics site = OtherStatistics i (site .line) × (site .column ≡ 0)
 -- "receive without a matching send"
 When i Fault.NoSend site = FirstReceive i (site .line) NoSend × (site .column ≡ 0)
 -- "exactly if the received length is above the sent one"

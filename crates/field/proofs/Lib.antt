@@ -1,4 +1,5 @@
--- The laws of a cursor.
+-- The laws of a cursor, and of a field that is one text.
 pub mod Cursors
 pub mod Counts
+pub mod Texts
 pub mod Outcome

@@ -7,11 +7,11 @@ use mathlib.Core.Option.{Option, none, some}
 use lib.ListN.{length, drop}
 use lib.IntN.{pos}
 use lib.Dec.{ltb}
-use Rattle.paper.specs.Forms.{wholeOf, timeOf}
+use Rattle.paper.specs.Forms.{wholeOf, timeOf, timesQuoted, numbersQuoted}
 use Rattle.paper.specs.Line.{First, nothing, first}
 use Rattle.paper.specs.declared.Field.{Field}
 use Rattle.field.specs.declared.Form.{Form}
-use Rattle.field.specs.declared.Form.the-variants.{Whole, Time}
+use Rattle.field.specs.declared.Form.the-variants.{Whole, Time, TimesQuoted, NumbersQuoted}
 use Rattle.field.specs.declared.Got.{Got}
 use Rattle.field.specs.declared.Got.the-variants.{Value, Nothing}
 use Rattle.field.specs.declared.Counted.{Counted}
@@ -20,6 +20,8 @@ use Rattle.field.specs.declared.Counted.the-variants as Counted
 unfoldable pub readAs : Form → List ℕ → Field
 readAs Whole = wholeOf
 readAs Time = timeOf
+readAs TimesQuoted = timesQuoted
+readAs NumbersQuoted = numbersQuoted
 
 -- the fields from the cursor on; none where it is past the end
 unfoldable pub restAt : List ℕ → ℕ → Option (List ℕ)

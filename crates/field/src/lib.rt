@@ -1,6 +1,7 @@
 // One field of a line, read at a cursor. A line is given without its LF. A cursor is the place where a field starts; one past the end
 // of the line stands for no field.
 ghost use mathlib.Core.Path.{_≡_};
+ghost use Rattle.paper.specs.Forms.{textOf};
 ghost use Rattle.paper.specs.Line.{firstOf, countOf};
 ghost use Rattle.field.specs.Cursor.{restAt, gotOf, gotNext, countedOf, countedNext, Tells, readAs};
 use paper::Field;
@@ -10,6 +11,8 @@ use signed::Natural;
 pub enum Form {
     Whole,
     Time,
+    TimesQuoted,
+    NumbersQuoted,
 }
 
 // The value of a field, and where the next field starts.
@@ -24,12 +27,24 @@ pub enum Counted {
     Nothing,
 }
 
+// A field that is this text and no other.
+fn read_text(s: &[u8], text: &[u8]) -> Field
+    ensures { λ r. ⌜ r ≡ textOf (now (text .entry)) (now (s .entry)) ⌝ }
+{
+    if texts::is_same(s, text) {
+        return Field::Good(0);
+    }
+    Field::Bad
+}
+
 fn read_as(form: Form, s: &[u8]) -> Field
     ensures { λ r. ⌜ r ≡ readAs form (now (s .entry)) ⌝ }
 {
     match form {
         Form::Whole => form::read_whole(s),
         Form::Time => form::read_time(s),
+        Form::TimesQuoted => read_text(s, b"\"%d%lf\""),
+        Form::NumbersQuoted => read_text(s, b"\"%d%d\""),
     }
 }
 

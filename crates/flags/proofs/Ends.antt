@@ -12,7 +12,7 @@ use Rattle.flags.specs.Spans.{requestIn, planIn, Planned}
 use Rattle.flags.specs.Parts.{filled, valueIn, valuesIn, Held, wishesOf}
 use Rattle.named.specs.declared.Span.{Span}
 use Rattle.named.specs.declared.Name.{Name}
-use Rattle.named.specs.declared.Name.the-variants.{Choice, Trace, Table, Levels}
+use Rattle.named.specs.declared.Name.the-variants.{Choice, Trace, Table, Levels, Statistics}
 use Rattle.flags.specs.declared.Plan.the-variants.{Missing, Judge}
 use Rattle.flags.specs.declared.Wishes.{Wishes}
 use Rattle.flags.specs.declared.given.Given.{Given}
@@ -21,10 +21,10 @@ use Rattle.named.specs.declared.levels.Wanted.the-variants.{Expected}
 
 -- ---- what is asked
 
-pub asked-levels : (choice : ℕ) {levels : Wanted} {a a′ b b′ c c′ : ℤ} → levels ≡ Expected a b c → a′ ≡ a → b′ ≡ b → c′ ≡ c
-    → _≡_ {A = Asked} (record { choice = choice; levels = 1; picl = a′; user = b′; trace = c′ }) (askedOf choice levels)
+pub asked-levels : (choice statistics : ℕ) {levels : Wanted} {a a′ b b′ c c′ : ℤ} → levels ≡ Expected a b c → a′ ≡ a → b′ ≡ b → c′ ≡ c
+    → _≡_ {A = Asked} (record { choice = choice; levels = 1; picl = a′; user = b′; trace = c′; statistics = statistics }) (askedOf choice levels statistics)
 unfolding askedOf
-asked-levels choice e p q r = rw (e, p, q, r)
+asked-levels choice statistics e p q r = rw (e, p, q, r)
 
 -- ---- what is missing
 
@@ -66,13 +66,20 @@ module _ (line : List ℕ) (given : Given) where
         no-levels h =
             is-missing line Levels (rw (full (given .choice) choice, full (given .trace) trace, full (given .table) table, empty (given .levels) h))
 
-        -- ---- or nothing is
+        module _ (levels : given .levels .from < given .levels .to) where
+          pub no-statistics : given .statistics .to ≤ given .statistics .from → Planned line (concluded (valuesIn line given)) (Missing Statistics)
+          unfolding concluded needed valuesIn valueIn
+          no-statistics h =
+              is-missing line Statistics (rw (full (given .choice) choice, full (given .trace) trace, full (given .table) table, full (given .levels) levels, empty (given .statistics) h))
 
-        pub all-given : {wishes : Wishes} → given .levels .from < given .levels .to → Held line given → wishes ≡ wishesOf line given → Planned line (concluded (valuesIn line given)) (Judge wishes)
-        unfolding concluded needed valuesIn valueIn planIn requestIn wishesOf
-        all-given {wishes} levels held is =
-            record {
-              is = rw (is, full (given .choice) choice, full (given .trace) trace, full (given .table) table, full (given .levels) levels);
-              word-within = λ word q. absurd (let r : _≡_ {A = ℕ} 0 1 = cc in omega arith);
-              wishes-within = λ other q. let same : other ≡ wishes = cc in rw (same, is) (record { trace = held .trace; table = held .table; out = held .out });
-            }
+          -- ---- or nothing is
+
+          pub all-given : {wishes : Wishes} → given .statistics .from < given .statistics .to → Held line given → wishes ≡ wishesOf line given
+              → Planned line (concluded (valuesIn line given)) (Judge wishes)
+          unfolding concluded needed valuesIn valueIn planIn requestIn wishesOf
+          all-given {wishes} statistics held is =
+              record {
+                is = rw (is, full (given .choice) choice, full (given .trace) trace, full (given .table) table, full (given .levels) levels, full (given .statistics) statistics);
+                word-within = λ word q. absurd (let r : _≡_ {A = ℕ} 0 1 = cc in omega arith);
+                wishes-within = λ other q. let same : other ≡ wishes = cc in rw (same, is) (record { trace = held .trace; table = held .table; out = held .out });
+              }

@@ -4,22 +4,22 @@ use mathlib.Core.Path.{_≡_, refl}
 use mathlib.Core.Option.{none, some}
 use lib.IntN.{pos, negsuc}
 use Rattle.bytes.specs.Bytes.{indexOf, indexAfter}
-use Rattle.paper.specs.Text.{bytesOf}
+use Rattle.paper.specs.Text.{bytesOf, isSame}
 use Rattle.paper.specs.Forms.{isDigit, digitsFrom, unled, hasMinus, signed, atMost}
 use Rattle.forms.specs.Sizes.{wholePart}
 use Rattle.numeral.specs.Numeral.{numeralOf}
-use Rattle.named.specs.Words.{before, wordsOf, upTo, behind, isSame}
-use Rattle.named.specs.Values.{written, nameOf, forgotten, choiceOf, expected, threeOf, levelsOf, isGood, goodFor}
+use Rattle.named.specs.Words.{before, wordsOf, upTo, behind}
+use Rattle.named.specs.Values.{written, nameOf, forgotten, choiceOf, expected, threeOf, levelsOf, isGood, switchOf, goodFor}
 use Rattle.flags.specs.Plan.{Meant, bad, missing, judge, noValues, valueOf, withValue, isGiven, accepts, taken, askedOf, needed, concluded, onPair, planFrom, planOf}
-use Rattle.named.specs.declared.Name.the-variants.{Choice, Table}
+use Rattle.named.specs.declared.Name.the-variants.{Choice, Table, Statistics}
 
 unfoldable pub asks : String → Meant
 asks line = planOf (wordsOf 32 (bytesOf line))
 
-pub plan-sample : (asks "--levels -1,0,7 --table t --trace a.trf --choice lenient"
-    ≡ judge (record { asked = record { choice = 2; levels = 1; picl = negsuc 0; user = pos 0; trace = pos 7 }; trace = bytesOf "a.trf"; table = bytesOf "t"; out = none }))
-    × (asks "--choice strict --trace a --table ./--t --levels off --out o"
-    ≡ judge (record { asked = record { choice = 1; levels = 0; picl = pos 0; user = pos 0; trace = pos 0 }; trace = bytesOf "a"; table = bytesOf "./--t"; out = some (bytesOf "o") }))
+pub plan-sample : (asks "--levels -1,0,7 --table t --statistics on --trace a.trf --choice lenient"
+    ≡ judge (record { asked = record { choice = 2; levels = 1; picl = negsuc 0; user = pos 0; trace = pos 7; statistics = 1 }; trace = bytesOf "a.trf"; table = bytesOf "t"; out = none }))
+    × (asks "--choice strict --trace a --table ./--t --levels off --out o --statistics off"
+    ≡ judge (record { asked = record { choice = 1; levels = 0; picl = pos 0; user = pos 0; trace = pos 0; statistics = 0 }; trace = bytesOf "a"; table = bytesOf "./--t"; out = some (bytesOf "o") }))
     × (asks "--choice strict --levls off" ≡ bad (bytesOf "--levls"))
     × (asks "--choice=strict --trace a" ≡ bad (bytesOf "--choice=strict"))
     × (asks "--trace a --trace b" ≡ bad (bytesOf "--trace"))
@@ -31,7 +31,10 @@ pub plan-sample : (asks "--levels -1,0,7 --table t --trace a.trf --choice lenien
     × (asks "--levels 1,2,3," ≡ bad (bytesOf "--levels"))
     × (asks "--levels 1,2,03" ≡ bad (bytesOf "--levels"))
     × (asks "--levels -0,2,3" ≡ bad (bytesOf "--levels"))
+    × (asks "--statistics 1" ≡ bad (bytesOf "--statistics"))
+    × (asks "--statistics on --statistics off" ≡ bad (bytesOf "--statistics"))
     × (asks "--choice strict --trace a --levels off" ≡ missing Table)
+    × (asks "--choice strict --trace a --table t --levels off --out o" ≡ missing Statistics)
     × (asks "" ≡ missing Choice)
-unfolding asks before wordsOf upTo behind isSame written nameOf forgotten choiceOf expected threeOf levelsOf isGood goodFor noValues valueOf withValue isGiven accepts taken askedOf needed concluded onPair planFrom planOf bytesOf indexOf indexAfter isDigit digitsFrom unled hasMinus signed atMost wholePart numeralOf
-plan-sample = (refl, refl, refl, refl, refl, refl, refl, refl, refl, refl, refl, refl, refl, refl, refl)
+unfolding asks before wordsOf upTo behind isSame written nameOf forgotten choiceOf expected threeOf levelsOf isGood switchOf goodFor noValues valueOf withValue isGiven accepts taken askedOf needed concluded onPair planFrom planOf bytesOf indexOf indexAfter isDigit digitsFrom unled hasMinus signed atMost wholePart numeralOf
+plan-sample = (refl, refl, refl, refl, refl, refl, refl, refl, refl, refl, refl, refl, refl, refl, refl, refl, refl, refl)

@@ -1,19 +1,21 @@
--- What is judged was read from values of a good form: the choice is 1 or 2, and levels of a bad form are never asked as none.
+-- What is judged was read from values of a good form: the choice is 1 or 2, levels of a bad form are never asked as none, and the statistics are
+-- switched off or on.
 use Prim.Native.Nat.{ℕ}
 use mathlib.Core.Path.{_≡_, refl}
 use mathlib.Core.Bool.{Bool, true, false, cond, _&&_, not}
 use mathlib.Core.List.{List, [], _∷_}
 use mathlib.Core.Option.{Option, none, some}
 use native.Mathlib.Omega.{arith}
-use Rattle.named.specs.Values.{nameOf, forgotten, choiceOf, levelsOf, goodFor}
+use Rattle.named.specs.Values.{nameOf, forgotten, choiceOf, levelsOf, switchOf, goodFor}
 use Rattle.flags.specs.Plan.{Request, judge, Values, noValues, valueOf, withValue, isGiven, accepts, taken, askedOf, needed, concluded, onPair, planFrom, planOf}
 use Rattle.named.specs.declared.Name.{Name}
-use Rattle.named.specs.declared.Name.the-variants.{Choice, Trace, Table, Levels, Out}
+use Rattle.named.specs.declared.Name.the-variants.{Choice, Trace, Table, Levels, Statistics, Out}
 
 -- what was given so far has its form
 record Sound (v : Values) : Type 0 where
   pub choice-good : (value : List ℕ) → v .choice ≡ some value → goodFor Choice value ≡ true
   pub levels-good : (value : List ℕ) → v .levels ≡ some value → goodFor Levels value ≡ true
+  pub statistics-good : (value : List ℕ) → v .statistics ≡ some value → goodFor Statistics value ≡ true
 
 sound-none : Sound noValues
 unfolding noValues
@@ -21,15 +23,18 @@ sound-none =
     record {
       choice-good = λ value e. absurd (let q : _≡_ {A = ℕ} 0 1 = cc in omega arith);
       levels-good = λ value e. absurd (let q : _≡_ {A = ℕ} 0 1 = cc in omega arith);
+      statistics-good = λ value e. absurd (let q : _≡_ {A = ℕ} 0 1 = cc in omega arith);
     }
 
 sound-with : (name : Name) (value : List ℕ) (v : Values) → goodFor name value ≡ true → Sound v → Sound (withValue name value v)
 unfolding withValue
-sound-with Choice value v g s = record { choice-good = λ other e. let same : other ≡ value = cc in rw same g; levels-good = s .levels-good }
-sound-with Trace value v g s = record { choice-good = s .choice-good; levels-good = s .levels-good }
-sound-with Table value v g s = record { choice-good = s .choice-good; levels-good = s .levels-good }
-sound-with Levels value v g s = record { choice-good = s .choice-good; levels-good = λ other e. let same : other ≡ value = cc in rw same g }
-sound-with Out value v g s = record { choice-good = s .choice-good; levels-good = s .levels-good }
+sound-with Choice value v g s = record { choice-good = λ other e. let same : other ≡ value = cc in rw same g; levels-good = s .levels-good; statistics-good = s .statistics-good }
+sound-with Trace value v g s = record { choice-good = s .choice-good; levels-good = s .levels-good; statistics-good = s .statistics-good }
+sound-with Table value v g s = record { choice-good = s .choice-good; levels-good = s .levels-good; statistics-good = s .statistics-good }
+sound-with Levels value v g s = record { choice-good = s .choice-good; levels-good = λ other e. let same : other ≡ value = cc in rw same g; statistics-good = s .statistics-good }
+sound-with Statistics value v g s =
+    record { choice-good = s .choice-good; levels-good = s .levels-good; statistics-good = λ other e. let same : other ≡ value = cc in rw same g }
+sound-with Out value v g s = record { choice-good = s .choice-good; levels-good = s .levels-good; statistics-good = s .statistics-good }
 
 sound-taken : (name : Option Name) (value : List ℕ) (v w : Values) → Sound v → taken name value v ≡ some w → Sound w
 unfolding taken accepts
@@ -45,26 +50,37 @@ sound-taken (some name) value v w s e = go (isGiven (valueOf name v)) (forgotten
 pub record Honest (request : Request) : Type 0 where
   pub choice : List ℕ
   pub levels : List ℕ
+  pub statistics : List ℕ
   pub strict-or-lenient : goodFor Choice choice ≡ true
   pub off-or-three : goodFor Levels levels ≡ true
-  pub is : request .asked ≡ askedOf (choiceOf choice) (levelsOf levels)
+  pub off-or-on : goodFor Statistics statistics ≡ true
+  pub is : request .asked ≡ askedOf (choiceOf choice) (levelsOf levels) (switchOf statistics)
 
 sound-end : (v : Values) (request : Request) → Sound v → concluded v ≡ judge request → Honest request
 unfolding concluded needed
-sound-end v request s e = go (v .choice) (v .trace) (v .table) (v .levels) refl refl e
+sound-end v request s e = go (v .choice) (v .trace) (v .table) (v .levels) (v .statistics) refl refl refl e
   where
-    go : (a b c d : Option (List ℕ)) → v .choice ≡ a → v .levels ≡ d
-        → needed Choice a (λ choice. needed Trace b (λ trace. needed Table c (λ table. needed Levels d (λ levels.
-        judge (record { asked = askedOf (choiceOf choice) (levelsOf levels); trace = trace; table = table; out = v .out })))))
+    go : (a b c d f : Option (List ℕ)) → v .choice ≡ a → v .levels ≡ d → v .statistics ≡ f
+        → needed Choice a (λ choice. needed Trace b (λ trace. needed Table c (λ table. needed Levels d (λ levels. needed Statistics f (λ statistics.
+        judge (record { asked = askedOf (choiceOf choice) (levelsOf levels) (switchOf statistics); trace = trace; table = table; out = v .out }))))))
         ≡ judge request
         → Honest request
-    go none b c d p q e = absurd (let q : _≡_ {A = ℕ} 0 1 = cc in omega arith)
-    go (some x) none c d p q e = absurd (let q : _≡_ {A = ℕ} 0 1 = cc in omega arith)
-    go (some x) (some y) none d p q e = absurd (let q : _≡_ {A = ℕ} 0 1 = cc in omega arith)
-    go (some x) (some y) (some z) none p q e = absurd (let q : _≡_ {A = ℕ} 0 1 = cc in omega arith)
-    go (some x) (some y) (some z) (some l) p q e =
-        let same : request ≡ record { asked = askedOf (choiceOf x) (levelsOf l); trace = y; table = z; out = v .out } = cc in
-        record { choice = x; levels = l; strict-or-lenient = s .choice-good x p; off-or-three = s .levels-good l q; is = rw same }
+    go none b c d f p q r e = absurd (let q : _≡_ {A = ℕ} 0 1 = cc in omega arith)
+    go (some x) none c d f p q r e = absurd (let q : _≡_ {A = ℕ} 0 1 = cc in omega arith)
+    go (some x) (some y) none d f p q r e = absurd (let q : _≡_ {A = ℕ} 0 1 = cc in omega arith)
+    go (some x) (some y) (some z) none f p q r e = absurd (let q : _≡_ {A = ℕ} 0 1 = cc in omega arith)
+    go (some x) (some y) (some z) (some l) none p q r e = absurd (let q : _≡_ {A = ℕ} 0 1 = cc in omega arith)
+    go (some x) (some y) (some z) (some l) (some w) p q r e =
+        let same : request ≡ record { asked = askedOf (choiceOf x) (levelsOf l) (switchOf w); trace = y; table = z; out = v .out } = cc in
+        record {
+          choice = x;
+          levels = l;
+          statistics = w;
+          strict-or-lenient = s .choice-good x p;
+          off-or-three = s .levels-good l q;
+          off-or-on = s .statistics-good w r;
+          is = rw same;
+        }
 
 sound-from : (words : List (List ℕ)) (v : Values) (request : Request) → Sound v → planFrom v words ≡ judge request → Honest request
 unfolding planFrom onPair

@@ -1,6 +1,6 @@
 // What was given, at the line's end: the first name that is missing, or what is asked for.
 ghost use mathlib.Core.Path.{_≡_};
-ghost use Rattle.named.specs.Values.{choiceOf, levelsOf};
+ghost use Rattle.named.specs.Values.{choiceOf, levelsOf, switchOf};
 ghost use Rattle.flags.specs.Plan.{askedOf, concluded};
 ghost use Rattle.named.specs.Parts.{cut, Within};
 ghost use Rattle.flags.specs.Spans.{Planned};
@@ -15,8 +15,8 @@ use paper::Asked;
 
 // Levels that are not asked for are 0 with the three numbers 0. No pair with levels of a bad form is taken, and what would come of one
 // is refused.
-fn asked_of(choice: u32, levels: Wanted) -> Asked
-    ensures { λ r. ⌜ r ≡ askedOf choice levels ⌝ }
+fn asked_of(choice: u32, levels: Wanted, statistics: u32) -> Asked
+    ensures { λ r. ⌜ r ≡ askedOf choice levels statistics ⌝ }
 {
     match levels {
         Wanted::Off => Asked {
@@ -25,6 +25,7 @@ fn asked_of(choice: u32, levels: Wanted) -> Asked
             picl: 0,
             user: 0,
             trace: 0,
+            statistics: statistics,
         },
         Wanted::Expected(picl, user, trace) => Asked {
             choice: choice,
@@ -32,6 +33,7 @@ fn asked_of(choice: u32, levels: Wanted) -> Asked
             picl: picl,
             user: user,
             trace: trace,
+            statistics: statistics,
         },
         Wanted::Bad => Asked {
             choice: 0,
@@ -39,6 +41,7 @@ fn asked_of(choice: u32, levels: Wanted) -> Asked
             picl: 0,
             user: 0,
             trace: 0,
+            statistics: statistics,
         },
     }
 }
@@ -61,14 +64,24 @@ fn levels_in(line: &[u8], span: Span) -> Wanted
     named::levels_of(&line[from..to])
 }
 
-// What is asked for, where all four were given.
+fn statistics_in(line: &[u8], span: Span) -> u32
+    requires { ⌜ Within (now line) span ⌝ }
+    ensures { λ r. ⌜ r ≡ switchOf (cut (now (line .entry)) span) ⌝ }
+{
+    let from = span.from;
+    let to = span.to;
+    named::switch_of(&line[from..to])
+}
+
+// What is asked for, where all five were given.
 fn wishes_of(line: &[u8], given: Given) -> Wishes
     requires { ⌜ Held (now line) given ⌝ }
     ensures { λ r. ⌜ r ≡ wishesOf (now (line .entry)) given ⌝ }
 {
     let choice = choice_in(line, given.choice);
     let levels = levels_in(line, given.levels);
-    let asked = asked_of(choice, levels);
+    let statistics = statistics_in(line, given.statistics);
+    let asked = asked_of(choice, levels, statistics);
     let trace = given.trace;
     let table = given.table;
     let out = given.out;
@@ -97,6 +110,9 @@ pub(crate) fn conclude(line: &[u8], given: Given) -> Plan
     }
     if given.levels.to <= given.levels.from {
         return Plan::Missing(Name::Levels);
+    }
+    if given.statistics.to <= given.statistics.from {
+        return Plan::Missing(Name::Statistics);
     }
     Plan::Judge(wishes_of(line, given))
 }

@@ -10,6 +10,7 @@ pub(crate) struct Given {
     pub trace: Span,
     pub table: Span,
     pub levels: Span,
+    pub statistics: Span,
     pub out: Span,
 }
 
@@ -21,6 +22,7 @@ pub(crate) fn nothing() -> Given
         trace: Span { from: 0, to: 0 },
         table: Span { from: 0, to: 0 },
         levels: Span { from: 0, to: 0 },
+        statistics: Span { from: 0, to: 0 },
         out: Span { from: 0, to: 0 },
     }
 }
@@ -33,6 +35,7 @@ pub(crate) fn is_given(given: Given, name: Name) -> bool
         Name::Trace => given.trace.from < given.trace.to,
         Name::Table => given.table.from < given.table.to,
         Name::Levels => given.levels.from < given.levels.to,
+        Name::Statistics => given.statistics.from < given.statistics.to,
         Name::Out => given.out.from < given.out.to,
     }
 }
@@ -56,6 +59,10 @@ pub(crate) fn with_span(given: Given, name: Name, span: Span) -> Given
         }
         Name::Levels => {
             next.levels = span;
+            next
+        }
+        Name::Statistics => {
+            next.statistics = span;
             next
         }
         Name::Out => {

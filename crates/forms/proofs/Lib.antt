@@ -10,3 +10,4 @@ pub mod Foreign
 pub mod Goods
 pub mod Back
 pub mod Ends
+pub mod Texts

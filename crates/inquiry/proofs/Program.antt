@@ -22,7 +22,7 @@ use Rattle.decided.specs.declared.Readiness.{Readiness}
 use Rattle.decided.specs.declared.Readiness.the-variants.{Both, Ended}
 use Rattle.decided.specs.Decided.{readyOf}
 use Rattle.showing.specs.Shown.{onTrace}
-use Rattle.arguments.specs.Arguments.{levelsOff}
+use Rattle.arguments.specs.Arguments.{choiceAlone}
 use Rattle.inquiry.specs.Arguments.{startOf}
 use Rattle.inquiry.specs.Program.{TextInto, onTable, onFiles, onStart, saidOf}
 use Rattle.showing.specs.declared.Shows.{Shows}
@@ -45,7 +45,7 @@ module _ (shows : Shows) (choice : ℕ) (line trace : List ℕ) where
   goes-on : (read got fits : Bool) (table : List ℕ) {latencies : List ℕ} → fits ≡ eqb (length table) 16384
       → (fits ≡ true → latencies ≡ latenciesOf table)
       → readyOf read got fits ≡ Both
-      → onTrace shows (levelsOff choice) line trace latencies ≡ onFiles shows choice line (fileOf read trace) (fileOf got table)
+      → onTrace shows (choiceAlone choice) line trace latencies ≡ onFiles shows choice line (fileOf read trace) (fileOf got table)
   unfolding readyOf onFiles fileOf onTable
   goes-on false got fits table t holds e = absurd (let z : _≡_ {A = ℕ} 0 1 = cc in omega arith)
   goes-on true false fits table t holds e = absurd (let z : _≡_ {A = ℕ} 0 1 = cc in omega arith)
@@ -65,7 +65,7 @@ module _ (shows : Shows) (choice : ℕ) (line trace : List ℕ) where
           → Put room 0 (onFiles shows choice line (fileOf read trace) (fileOf got table)) end after
       not-judged e p = rw (← ends read got fits table test (sym tells ∙ e)) p
 
-      pub judged : {asked : Asked} → ready ≡ Both → asked ≡ levelsOff choice → Put room 0 (onTrace shows asked line trace latencies) end after
+      pub judged : {asked : Asked} → ready ≡ Both → asked ≡ choiceAlone choice → Put room 0 (onTrace shows asked line trace latencies) end after
           → Put room 0 (onFiles shows choice line (fileOf read trace) (fileOf got table)) end after
       judged e a p = rw (← goes-on read got fits table test holds (sym tells ∙ e), ← a) p
 

@@ -17,7 +17,7 @@ use Rattle.report.specs.Said.{saidShown}
 use Rattle.report.specs.declared.Said.the-variants as Said
 use Rattle.showing.specs.Shown.{onTrace}
 use Rattle.showing.specs.declared.Shows.{Shows}
-use Rattle.arguments.specs.Arguments.{levelsOff}
+use Rattle.arguments.specs.Arguments.{choiceAlone}
 use Rattle.inquiry.specs.Arguments.{startOf}
 use Rattle.inquiry.specs.declared.begun.Start.{Start}
 use Rattle.inquiry.specs.declared.begun.Start.the-variants.{Ended, Judge}
@@ -34,7 +34,7 @@ onTable shows asked line trace table =
 unfoldable pub onFiles : Shows → (choice : ℕ) (line : List ℕ) (trace table : Option (List ℕ)) → List ℕ
 onFiles shows choice line none table = saidShown Said.CannotRead
 onFiles shows choice line (some trace) none = saidShown Said.CannotRead
-onFiles shows choice line (some trace) (some table) = onTable shows (levelsOff choice) line trace table
+onFiles shows choice line (some trace) (some table) = onTable shows (choiceAlone choice) line trace table
 
 -- ---- the arguments
 

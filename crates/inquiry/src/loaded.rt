@@ -44,7 +44,7 @@ fn of_bytes(
     match decided::ready(read, got, fits) {
         Readiness::Ended(said) => showing::say(said, room),
         Readiness::Both => {
-            let asked = arguments::levels_off(choice);
+            let asked = arguments::choice_alone(choice);
             showing::show(shows, asked, trace, &latencies, line, room)
         }
     }

@@ -5,7 +5,7 @@ use mathlib.Core.List.{List}
 use mathlib.Core.Bool.{Bool}
 use mathlib.Core.Option.{Option}
 use lib.IntN.{ℤ}
-use Rattle.paper.specs.Line.{headOf, six, begun, sorted, lineOf, listedLine, unlisted, stepOver, dataOf}
+use Rattle.paper.specs.Line.{headOf, six, begun, sorted, lineOf, listedLine, unlisted, stepOver, valuesIn}
 use Rattle.paper.specs.declared.Choice.{Choice}
 use Rattle.paper.specs.declared.Data.{Data}
 use Rattle.paper.specs.declared.Values.the-variants.{Good}
@@ -30,11 +30,11 @@ use Rattle.line.proofs.Sorts.{end-good, stands}
 
 -- ---- behind the six fields
 
-pub listed-rest : (s : List ℕ) (ended : Bool) (at : ℕ) (h : Head) (r : Holds) → HoldsAt s ended at (h .count) r → (values : Data) (next : ℕ) → r ≡ Holds.Of values next
-    → (x : Line) → ((fields : Option (List ℕ)) → Good values ≡ dataOf (h .count) fields → x ≡ listedLine h fields) → RestAt (listedLine h) s ended at (Of x next)
+pub listed-rest : (s : List ℕ) (ended : Bool) (at : ℕ) (h : Head) (r : Holds) {kind : ℤ} → HoldsAt s ended at kind (h .count) r → kind ≡ h .kind → (values : Data) (next : ℕ) → r ≡ Holds.Of values next
+    → (x : Line) → ((fields : Option (List ℕ)) → Good values ≡ valuesIn (h .kind) (h .count) fields → x ≡ listedLine h fields) → RestAt (listedLine h) s ended at (Of x next)
 unfolding HoldsAt DataAt RestAt
-listed-rest s ended at h r t values next e x so =
-    let k = subst (DataAt (dataOf (h .count)) s ended at) e t in record { is = so (fieldsFrom s ended at) (k .is); ends = k .ends; near = k .near }
+listed-rest s ended at h r t same values next e x so =
+    let k = subst (DataAt (valuesIn (h .kind) (h .count)) s ended at) e (rw same at t) in record { is = so (fieldsFrom s ended at) (k .is); ends = k .ends; near = k .near }
 
 pub over-rest : (choice : Choice) (s : List ℕ) (ended : Bool) (at : ℕ) (h : Head) (r : Ends) → EndsAt s ended at (h .count) r → (next : ℕ) → r ≡ Ends.At next
     → (x : Line) → x ≡ stepOver choice h → RestAt (unlisted choice h) s ended at (Of x next)

@@ -9,9 +9,10 @@ use lib.Signed.{leZ}
 use lib.Dec.{leb·zero}
 use borrow.Author.Tests.{eq-eqb, ne-eqb}
 use Rattle.paper.specs.Tests.{eqZ, upTo}
-use Rattle.paper.specs.Line.{partOf, messageOf, lacking, placed, misplaced, onPlace, listedLine, roleOf, withRole, withData, dataOf}
+use Rattle.paper.specs.Line.{partOf, messageOf, lacking, placed, misplaced, onPlace, listedLine, roleOf, withRole, withData, valuesIn}
 use Rattle.paper.specs.declared.Data.{Data}
 use Rattle.paper.specs.declared.Data.the-variants.{Three, Others}
+use Rattle.paper.specs.declared.Values.{Values}
 use Rattle.paper.specs.declared.Values.the-variants.{Good, Bad}
 use Rattle.paper.specs.declared.Role.{Role}
 use Rattle.paper.specs.declared.Role.the-variants as Role
@@ -134,14 +135,18 @@ module _ (h : Head) (fields : Option (List ℕ)) (r : Natural) (is : numberIn r 
   no-place e q = rw (q, ← is, e)
 
   module _ (n : ℕ) (o : r ≡ Of n) where
-    pub bad-data : (k : ℕ) → Bad k ≡ dataOf (h .count) fields → Refused Fault.Form (Field k) ≡ listedLine h fields
+    pub bad-data : (k : ℕ) → Bad k ≡ valuesIn (h .kind) (h .count) fields → Refused Fault.Form (Field k) ≡ listedLine h fields
     unfolding listedLine onPlace numberIn withData
     bad-data k s = rw (← is, o, ← s)
 
     pub good-place : {k e : ℤ} (d : Data) (part : Part) (role : Option Role) → k ≡ h .kind → e ≡ h .event → part ≡ partOf k e → role ≡ roleOf part d
-        → Good d ≡ dataOf (h .count) fields → withRole h n d role ≡ listedLine h fields
+        → Good d ≡ valuesIn (h .kind) (h .count) fields → withRole h n d role ≡ listedLine h fields
     unfolding listedLine onPlace numberIn withData
     good-place d part role b c q t s = rw (← is, o, ← s, t, q, b, c)
+
+-- the data that were read of this record type
+pub read-of : {k u : ℤ} (n : ℕ) (fields : Option (List ℕ)) {r x : Values} → r ≡ valuesIn u n fields → u ≡ k → r ≡ x → x ≡ valuesIn k n fields
+read-of n fields e same is = rw (← is, e, same)
 
 -- ---- the record put together
 

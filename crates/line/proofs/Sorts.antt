@@ -11,7 +11,7 @@ use lib.IntN.{ℤ}
 use lib.Dec.{ltb}
 use denote.Enum.Declared.{tagOf}
 use borrow.Author.Tests.{lt-ltb, le-ltb, ltb-true, ltb-false}
-use Rattle.paper.specs.Events.{listedKind, standingOf}
+use Rattle.paper.specs.Events.{listedKind, isStatistics, standingOf, standingFor}
 use Rattle.paper.specs.Line.{goodEnd, unknown, stepOver, unlisted, listedLine, sorted, six, begun, lineOf, headOf}
 use Rattle.paper.specs.declared.Choice.{Choice}
 use Rattle.paper.specs.declared.Head.{Head}
@@ -56,9 +56,14 @@ module _ (l : List ℕ) (next : ℕ) where
 -- ---- the standing
 
 module _ {kind event k e : ℤ} (same-kind : k ≡ kind) (same-event : e ≡ event) {told : Bool} (tells : told ≡ listedKind k) where
-  pub kind-listed : told ≡ true → standingOf e ≡ standingIn kind event
-  unfolding standingIn
-  kind-listed t = rw (← same-kind, ← tells, t, same-event)
+  module _ (t : told ≡ true) {counts : Bool} (asked : counts ≡ isStatistics k) where
+    pub statistics : counts ≡ true → Standing.Listed ≡ standingIn kind event
+    unfolding standingIn standingFor
+    statistics is = rw (← same-kind, ← tells, t, ← asked, is)
+
+    pub kind-listed : counts ≡ false → standingOf e ≡ standingIn kind event
+    unfolding standingIn standingFor
+    kind-listed is = rw (← same-kind, ← tells, t, ← asked, is, same-event)
 
   pub kind-unlisted : told ≡ false → Standing.Unlisted ≡ standingIn kind event
   unfolding standingIn
@@ -100,8 +105,8 @@ module _ (choice : Choice) (h : Head) (fields : Option (List ℕ)) where
   unfolding begun standingIn sorted
   by-standing = go (listedKind (h .kind))
     where
-      go : (b : Bool) → cond b (sorted choice h fields (standingOf (h .event))) (unlisted choice h fields)
-          ≡ sorted choice h fields (cond b (standingOf (h .event)) Standing.Unlisted)
+      go : (b : Bool) → cond b (sorted choice h fields (standingFor (h .kind) (h .event))) (unlisted choice h fields)
+          ≡ sorted choice h fields (cond b (standingFor (h .kind) (h .event)) Standing.Unlisted)
       go true = refl
       go false = refl
 

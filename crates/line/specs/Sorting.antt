@@ -2,7 +2,7 @@
 use mathlib.Core.Bool.{cond}
 use mathlib.Core.Option.{Option, none, some}
 use lib.IntN.{ℤ}
-use Rattle.paper.specs.Events.{listedKind, standingOf}
+use Rattle.paper.specs.Events.{listedKind, standingFor}
 use Rattle.paper.specs.declared.Message.{Message}
 use Rattle.paper.specs.declared.Role.{Role}
 use Rattle.paper.specs.declared.Standing.{Standing}
@@ -20,6 +20,6 @@ unfoldable pub castOf : Cast → Option Role
 castOf (Cast.Of role) = some role
 castOf Cast.Nothing = none
 
--- an event counts only in a record type that is listed
+-- the standing in a record type that is listed, or unlisted
 unfoldable pub standingIn : ℤ → ℤ → Standing
-standingIn kind event = cond (listedKind kind) (standingOf event) Standing.Unlisted
+standingIn kind event = cond (listedKind kind) (standingFor kind event) Standing.Unlisted

@@ -15,7 +15,7 @@ use tail::Ends;
 fn with_data(s: &[u8], h: Head, ended: bool, at: usize) -> Quick
     ensures { λ r. ⌜ RestAt (listedLine h) (now (s .entry)) ended at r ⌝ }
 {
-    let Holds::Of(values, next) = quick::read_data(s, ended, at, h.count) else {
+    let Holds::Of(values, next) = quick::read_data(s, ended, at, h.kind, h.count) else {
         return Quick::Doubt;
     };
     Quick::Of(listed::with_values(h, values), next)

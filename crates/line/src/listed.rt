@@ -5,7 +5,7 @@ ghost use mathlib.Core.Path.{_≡_};
 ghost use mathlib.Core.List.{List};
 ghost use mathlib.Core.Option.{Option};
 ghost use Rattle.paper.specs.Line as paper;
-ghost use Rattle.paper.specs.Line.{placed, messageOf, roleOf, withRole, dataOf, listedLine};
+ghost use Rattle.paper.specs.Line.{placed, messageOf, roleOf, withRole, valuesIn, listedLine};
 ghost use Rattle.field.specs.Cursor.{restAt};
 ghost use Rattle.signed.specs.Naturals.{numberIn};
 ghost use Rattle.line.specs.Sorting.{noteOf, castOf};
@@ -133,7 +133,7 @@ fn misplaced(h: Head) -> usize
 
 // "then 9, .. 10", of data that are good.
 pub(crate) fn with_values(h: Head, values: Data) -> Line
-    ensures { λ r. ⌜ ((fields : Option (List ℕ)) → Values.Good values ≡ dataOf (h .count) fields → r ≡ listedLine h fields) ⌝ }
+    ensures { λ r. ⌜ ((fields : Option (List ℕ)) → Values.Good values ≡ valuesIn (h .kind) (h .count) fields → r ≡ listedLine h fields) ⌝ }
 {
     let Natural::Of(processor) = place_of(h.processor, h.process) else {
         return Line::Refused(Fault::Place, Spot::Field(misplaced(h)));
@@ -144,7 +144,7 @@ pub(crate) fn with_values(h: Head, values: Data) -> Line
 
 // "then 9, data (5)", of data that are bad, missing or too many at a field.
 fn without_values(h: Head, k: usize) -> Line
-    ensures { λ r. ⌜ ((fields : Option (List ℕ)) → Values.Bad k ≡ dataOf (h .count) fields → r ≡ listedLine h fields) ⌝ }
+    ensures { λ r. ⌜ ((fields : Option (List ℕ)) → Values.Bad k ≡ valuesIn (h .kind) (h .count) fields → r ≡ listedLine h fields) ⌝ }
 {
     match place_of(h.processor, h.process) {
         Natural::Of(_) => Line::Refused(Fault::Form, Spot::Field(k)),
@@ -155,7 +155,7 @@ fn without_values(h: Head, k: usize) -> Line
 pub(crate) fn listed_line(l: &[u8], h: Head, next: usize) -> Line
     ensures { λ r. ⌜ r ≡ listedLine h (restAt (now (l .entry)) next) ⌝ }
 {
-    match values::read(l, next, h.count) {
+    match values::read(l, next, h.kind, h.count) {
         Values::Good(values) => with_values(h, values),
         Values::Bad(k) => without_values(h, k),
     }

@@ -51,11 +51,15 @@ fn over(choice: Choice, l: &[u8], h: Head, next: usize) -> Line
     Line::Refused(Fault::Form, Spot::Field(6))
 }
 
-// An event of a record type that is not listed is not looked at.
+// The event of a record type that is not listed is not looked at, nor that of a statistics record: "Their event field may be any whole
+// number".
 pub(crate) fn standing(kind: i64, event: i64) -> Standing
     ensures { λ r. ⌜ r ≡ standingIn kind event ⌝ }
 {
     if parts::listed_kind(kind) {
+        if parts::is_statistics(kind) {
+            return Standing::Listed;
+        }
         return events::standing(event);
     }
     Standing::Unlisted

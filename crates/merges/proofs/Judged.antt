@@ -4,7 +4,7 @@ use native.Mathlib.Omega.{arith}
 use native.Mathlib.Decide.{decLe}
 use mathlib.Core.Path.{_≡_, refl, ap, _∙_}
 use mathlib.Core.Logic.{_⊎_, inl, inr, _↔_}
-use mathlib.Core.Bool.{Bool, true, false, cond}
+use mathlib.Core.Bool.{Bool, true, false, cond, _&&_}
 use mathlib.Core.Option.{none, some}
 use mathlib.Core.List.{List}
 use lib.ListN.{length}
@@ -38,7 +38,7 @@ use Rattle.merges.proofs.Reread.{reads-whole, stops-full}
 
 heard-choice : (a : Asked) (choice : Choice) → heard a ≡ some choice → choiceOf (a .choice) ≡ some choice
 unfolding heard
-heard-choice a choice e = go (leb (a .levels) 1) e
+heard-choice a choice e = go (leb (a .levels) 1 && leb (a .statistics) 1) e
   where
     go : (t : Bool) → cond t (choiceOf (a .choice)) none ≡ some choice → choiceOf (a .choice) ≡ some choice
     go true e = e

@@ -39,7 +39,8 @@ unheard-choice n e = go (neither (alone n [] .asked) e)
   where
     go : Unheard (alone n [] .asked) → (¬ (n ≡ 1)) × (¬ (n ≡ 2))
     go (inl h) = h
-    go (inr (off, on)) = absurd (off refl)
+    go (inr (inl (off, on))) = absurd (off refl)
+    go (inr (inr (off, on))) = absurd (off refl)
 
 module _ (i : Merging) where
   -- ---- what a row comes to

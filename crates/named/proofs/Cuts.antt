@@ -1,15 +1,14 @@
--- The first word of a line and the words behind it; words compared.
+-- The first word of a line and the words behind it.
 use Prim.Native.Nat.{ℕ, suc, _+_, _-_, _≤_, _<_}
 use mathlib.Core.Path.{_≡_, refl, sym, ap, _∙_}
-use mathlib.Core.Bool.{Bool, true, false, cond, _&&_}
+use mathlib.Core.Bool.{Bool, true, false, cond}
 use mathlib.Core.List.{List, [], _∷_}
 use native.Mathlib.Omega.{arith}
 use lib.ListN.{length, take, drop, drop-of-length-le}
 use lib.Seq.{take-length, take-nil, drop-nil, drop-length, drop-drop}
 use lib.Dec.{eqb}
-use borrow.Author.Tests.{eq-eqb, eqb-true}
 use Rattle.bytes.specs.Bytes.{indexOf, indexAfter, slice}
-use Rattle.named.specs.Words.{before, wordsOf, upTo, behind, isSame}
+use Rattle.named.specs.Words.{before, wordsOf, upTo, behind}
 use Rattle.named.specs.Parts.{cut, WordAt}
 
 -- ---- the first word
@@ -66,31 +65,3 @@ word-past separator line at h =
       is = rw (here, drop-length line) (take-nil {A = ℕ} (length line - length line) ∙ sym (take-nil (indexOf separator [])));
       rest = rw (here, next, drop-nil);
     }
-
--- ---- words compared
-
-pub same-self : (a : List ℕ) → isSame a a ≡ true
-unfolding isSame
-same-self [] = refl
-same-self (x ∷ a) = rw (eq-eqb x x refl, same-self a)
-
-same-means : (a b : List ℕ) → isSame a b ≡ true → a ≡ b
-unfolding isSame
-same-means [] [] e = refl
-same-means [] (y ∷ b) e = cc
-same-means (x ∷ a) [] e = cc
-same-means (x ∷ a) (y ∷ b) e = go (λ q. same-means a b q) (eqb x y) refl e
-  where
-    go : (isSame a b ≡ true → a ≡ b) → (t : Bool) → eqb x y ≡ t → (t && isSame a b) ≡ true → x ∷ a ≡ y ∷ b
-    go later true q e = rw (eqb-true x y q, later e)
-    go later false q e = cc
-
--- as the library's comparison tells it
-pub same-told : (a b : List ℕ) {told : Bool} → (told ≡ true → a ≡ b) × (a ≡ b → told ≡ true) → told ≡ isSame a b
-same-told a b {told} tells = go told (isSame a b) refl refl
-  where
-    go : (s t : Bool) → told ≡ s → isSame a b ≡ t → told ≡ isSame a b
-    go true true p q = p ∙ sym q
-    go true false p q = p ∙ rw (tells .0 p) (sym (same-self b))
-    go false true p q = tells .1 (same-means a b q) ∙ sym q
-    go false false p q = p ∙ sym q

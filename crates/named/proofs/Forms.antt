@@ -11,18 +11,18 @@ use lib.IntN.{ℤ}
 use lib.Dec.{eqb}
 use borrow.Author.Tests.{eq-eqb, ne-eqb}
 use Rattle.bytes.specs.Bytes.{indexOf}
-use Rattle.paper.specs.Text.{bytesOf}
+use Rattle.paper.specs.Text.{bytesOf, isSame}
 use Rattle.paper.specs.Forms.{hasMinus, unled, signed, atMost}
 use Rattle.forms.specs.Sizes.{wholePart}
 use Rattle.numeral.specs.Numeral.{numeralOf}
 use Rattle.paper.specs.declared.Field.{Field}
 use Rattle.paper.specs.declared.Field.the-variants as Field
-use Rattle.named.specs.Words.{upTo, behind, isSame}
-use Rattle.named.specs.Values.{written, nameOf, forgotten, choiceOf, expected, threeOf, levelsOf, isGood, goodFor}
+use Rattle.named.specs.Words.{upTo, behind}
+use Rattle.named.specs.Values.{written, nameOf, forgotten, choiceOf, expected, threeOf, levelsOf, isGood, switchOf, goodFor}
 use Rattle.named.specs.Parts.{cut, WordAt}
 use Rattle.named.specs.declared.Span.{Span}
 use Rattle.named.specs.declared.Name.{Name}
-use Rattle.named.specs.declared.Name.the-variants.{Choice, Trace, Table, Levels, Out}
+use Rattle.named.specs.declared.Name.the-variants.{Choice, Trace, Table, Levels, Statistics, Out}
 use Rattle.named.specs.declared.levels.Wanted.{Wanted}
 use Rattle.named.specs.declared.levels.Wanted.the-variants.{Off, Expected, Bad}
 
@@ -48,14 +48,19 @@ module _ (word : List ℕ) {a : Bool} (choice : a ≡ isSame word (written Choic
         unfolding nameOf
         is-levels e = rw (sym choice ∙ no-a, sym trace ∙ no-b, sym table ∙ no-c, sym levels ∙ e)
 
-        module _ (no-d : d ≡ false) {o : Bool} (out : o ≡ isSame word (written Out)) where
-          pub is-out : o ≡ true → some Out ≡ nameOf word
+        module _ (no-d : d ≡ false) {s : Bool} (statistics : s ≡ isSame word (written Statistics)) where
+          pub is-statistics : s ≡ true → some Statistics ≡ nameOf word
           unfolding nameOf
-          is-out e = rw (sym choice ∙ no-a, sym trace ∙ no-b, sym table ∙ no-c, sym levels ∙ no-d, sym out ∙ e)
+          is-statistics e = rw (sym choice ∙ no-a, sym trace ∙ no-b, sym table ∙ no-c, sym levels ∙ no-d, sym statistics ∙ e)
 
-          pub is-nobody's : o ≡ false → none ≡ nameOf word
-          unfolding nameOf
-          is-nobody's e = rw (sym choice ∙ no-a, sym trace ∙ no-b, sym table ∙ no-c, sym levels ∙ no-d, sym out ∙ e)
+          module _ (no-s : s ≡ false) {o : Bool} (out : o ≡ isSame word (written Out)) where
+            pub is-out : o ≡ true → some Out ≡ nameOf word
+            unfolding nameOf
+            is-out e = rw (sym choice ∙ no-a, sym trace ∙ no-b, sym table ∙ no-c, sym levels ∙ no-d, sym statistics ∙ no-s, sym out ∙ e)
+
+            pub is-nobody's : o ≡ false → none ≡ nameOf word
+            unfolding nameOf
+            is-nobody's e = rw (sym choice ∙ no-a, sym trace ∙ no-b, sym table ∙ no-c, sym levels ∙ no-d, sym statistics ∙ no-s, sym out ∙ e)
 
 -- ---- a value that was forgotten
 
@@ -144,12 +149,29 @@ module _ (value : List ℕ) {a : Bool} (off : a ≡ isSame value (bytesOf "off")
   unfolding levelsOf
   is-three e t = t ∙ rw (sym off ∙ e)
 
+-- ---- the switch
+
+module _ (value : List ℕ) {a : Bool} (off : a ≡ isSame value (bytesOf "off")) where
+  pub is-zero : a ≡ true → 0 ≡ switchOf value
+  unfolding switchOf
+  is-zero e = rw (sym off ∙ e)
+
+  module _ (no-a : a ≡ false) {b : Bool} (on : b ≡ isSame value (bytesOf "on")) where
+    pub is-on : b ≡ true → 1 ≡ switchOf value
+    unfolding switchOf
+    is-on e = rw (sym off ∙ no-a, sym on ∙ e)
+
+    pub is-no-switch : b ≡ false → 2 ≡ switchOf value
+    unfolding switchOf
+    is-no-switch e = rw (sym off ∙ no-a, sym on ∙ e)
+
 -- ---- no good value is empty
 
 pub empty-bad : (name : Name) → goodFor name [] ≡ false
-unfolding goodFor choiceOf isSame bytesOf levelsOf isGood threeOf upTo behind expected numeralOf signed hasMinus atMost wholePart unled indexOf
+unfolding goodFor choiceOf switchOf isSame bytesOf levelsOf isGood threeOf upTo behind expected numeralOf signed hasMinus atMost wholePart unled indexOf
 empty-bad Choice = refl
 empty-bad Trace = refl
 empty-bad Table = refl
 empty-bad Levels = refl
+empty-bad Statistics = refl
 empty-bad Out = refl

@@ -1,17 +1,17 @@
--- The five names, and the form that each one's value has.
+-- The six names, and the form that each one's value has.
 use Prim.Native.Nat.{ℕ}
 use mathlib.Core.Bool.{Bool, true, false, cond, _&&_, not}
 use mathlib.Core.List.{List}
 use mathlib.Core.Option.{Option, none, some}
 use lib.ListN.{length, getD}
 use lib.Dec.{eqb}
-use Rattle.paper.specs.Text.{bytesOf}
+use Rattle.paper.specs.Text.{bytesOf, isSame}
 use Rattle.numeral.specs.Numeral.{numeralOf}
 use Rattle.paper.specs.declared.Field.{Field}
 use Rattle.paper.specs.declared.Field.the-variants as Field
-use Rattle.named.specs.Words.{upTo, behind, isSame}
+use Rattle.named.specs.Words.{upTo, behind}
 use Rattle.named.specs.declared.Name.{Name}
-use Rattle.named.specs.declared.Name.the-variants.{Choice, Trace, Table, Levels, Out}
+use Rattle.named.specs.declared.Name.the-variants.{Choice, Trace, Table, Levels, Statistics, Out}
 use Rattle.named.specs.declared.levels.Wanted.{Wanted}
 use Rattle.named.specs.declared.levels.Wanted.the-variants.{Off, Expected, Bad}
 
@@ -22,6 +22,7 @@ written Choice = bytesOf "--choice"
 written Trace = bytesOf "--trace"
 written Table = bytesOf "--table"
 written Levels = bytesOf "--levels"
+written Statistics = bytesOf "--statistics"
 written Out = bytesOf "--out"
 
 -- whose name a word is: none where it is nobody's
@@ -31,7 +32,8 @@ nameOf word =
     (cond (isSame word (written Trace)) (some Trace)
     (cond (isSame word (written Table)) (some Table)
     (cond (isSame word (written Levels)) (some Levels)
-    (cond (isSame word (written Out)) (some Out) none))))
+    (cond (isSame word (written Statistics)) (some Statistics)
+    (cond (isSame word (written Out)) (some Out) none)))))
 
 -- ---- values
 
@@ -64,10 +66,15 @@ isGood Off = true
 isGood (Expected picl user trace) = true
 isGood Bad = false
 
+-- `off` is 0 and `on` is 1; every other word is 2, which is no switch
+unfoldable pub switchOf : List ℕ → ℕ
+switchOf value = cond (isSame value (bytesOf "off")) 0 (cond (isSame value (bytesOf "on")) 1 2)
+
 -- whether a value has its name's form; a file's name is any bytes, but not none
 unfoldable pub goodFor : Name → List ℕ → Bool
 goodFor Choice value = not (eqb (choiceOf value) 0)
 goodFor Trace value = not (eqb (length value) 0)
 goodFor Table value = not (eqb (length value) 0)
 goodFor Levels value = isGood (levelsOf value)
+goodFor Statistics value = not (eqb (switchOf value) 2)
 goodFor Out value = not (eqb (length value) 0)

@@ -1,7 +1,7 @@
 -- The words of a line of arguments: a word ends at the separator or at the end of the line, and an empty rest is no word. A byte is its
 -- number.
 use Prim.Native.Nat.{ℕ, suc}
-use mathlib.Core.Bool.{Bool, true, false, cond, _&&_}
+use mathlib.Core.Bool.{cond}
 use mathlib.Core.List.{List, [], _∷_}
 use lib.ListN.{take, drop}
 use lib.Dec.{eqb}
@@ -22,10 +22,3 @@ upTo separator line = take (indexOf separator line) line
 
 unfoldable pub behind : ℕ → List ℕ → List ℕ
 behind separator line = drop (suc (indexOf separator line)) line
-
--- "compared byte for byte"
-unfoldable pub isSame : List ℕ → List ℕ → Bool
-isSame [] [] = true
-isSame [] (b ∷ other) = false
-isSame (a ∷ word) [] = false
-isSame (a ∷ word) (b ∷ other) = eqb a b && isSame word other

@@ -4,7 +4,6 @@ ghost use Rattle.numeral.specs.Numeral.{numeralOf};
 ghost use Rattle.named.specs.Values.{expected, threeOf, levelsOf, isGood};
 ghost use Rattle.named.specs.Parts.{cut, Within};
 use crate::Span;
-use crate::names;
 use crate::words;
 use paper::Field;
 
@@ -64,7 +63,7 @@ fn three_in(value: &[u8]) -> Wanted
 pub fn levels_of(value: &[u8]) -> Wanted
     ensures { λ r. ⌜ r ≡ levelsOf (now (value .entry)) ⌝ }
 {
-    if names::is_same(value, b"off") {
+    if texts::is_same(value, b"off") {
         return Wanted::Off;
     }
     three_in(value)

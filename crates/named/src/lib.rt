@@ -1,6 +1,7 @@
 // The words of a line of named arguments: where a word stands, whose name it is, and whether a value has its name's form.
 mod levels;
 mod names;
+mod switch;
 mod values;
 mod words;
 
@@ -8,6 +9,7 @@ pub use levels::Wanted;
 pub use levels::levels_of;
 pub use names::Found;
 pub use names::name_of;
+pub use switch::switch_of;
 pub use values::choice_of;
 pub use values::is_forgotten;
 pub use values::is_good;
@@ -24,5 +26,6 @@ pub enum Name {
     Trace,
     Table,
     Levels,
+    Statistics,
     Out,
 }

@@ -1,6 +1,5 @@
-// The five names.
+// The six names.
 ghost use mathlib.Core.Path.{_≡_};
-ghost use Rattle.named.specs.Words.{isSame};
 ghost use Rattle.named.specs.Values.{nameOf};
 ghost use Rattle.named.specs.Parts.{foundIn};
 use crate::Name;
@@ -11,29 +10,25 @@ pub enum Found {
     Unknown,
 }
 
-// "compared byte for byte"
-pub(crate) fn is_same(word: &[u8], other: &[u8]) -> bool
-    ensures { λ r. ⌜ r ≡ isSame (now (word .entry)) (now (other .entry)) ⌝ }
-{
-    check::same(word, other)
-}
-
 pub fn name_of(word: &[u8]) -> Found
     ensures { λ r. ⌜ foundIn r ≡ nameOf (now (word .entry)) ⌝ }
 {
-    if is_same(word, b"--choice") {
+    if texts::is_same(word, b"--choice") {
         return Found::Is(Name::Choice);
     }
-    if is_same(word, b"--trace") {
+    if texts::is_same(word, b"--trace") {
         return Found::Is(Name::Trace);
     }
-    if is_same(word, b"--table") {
+    if texts::is_same(word, b"--table") {
         return Found::Is(Name::Table);
     }
-    if is_same(word, b"--levels") {
+    if texts::is_same(word, b"--levels") {
         return Found::Is(Name::Levels);
     }
-    if is_same(word, b"--out") {
+    if texts::is_same(word, b"--statistics") {
+        return Found::Is(Name::Statistics);
+    }
+    if texts::is_same(word, b"--out") {
         return Found::Is(Name::Out);
     }
     Found::Unknown

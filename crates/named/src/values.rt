@@ -3,7 +3,7 @@ ghost use mathlib.Core.Path.{_≡_};
 ghost use Rattle.named.specs.Values.{forgotten, choiceOf, goodFor};
 use crate::Name;
 use crate::levels;
-use crate::names;
+use crate::switch;
 
 // A value that begins with `--` is the next name.
 pub fn is_forgotten(value: &[u8]) -> bool
@@ -21,10 +21,10 @@ pub fn is_forgotten(value: &[u8]) -> bool
 pub fn choice_of(value: &[u8]) -> u32
     ensures { λ r. ⌜ r ≡ choiceOf (now (value .entry)) ⌝ }
 {
-    if names::is_same(value, b"strict") {
+    if texts::is_same(value, b"strict") {
         return 1;
     }
-    if names::is_same(value, b"lenient") {
+    if texts::is_same(value, b"lenient") {
         return 2;
     }
     0
@@ -38,6 +38,7 @@ pub fn is_good(name: Name, value: &[u8]) -> bool
         Name::Trace => value.len() != 0,
         Name::Table => value.len() != 0,
         Name::Levels => levels::are_good(levels::levels_of(value)),
+        Name::Statistics => switch::switch_of(value) != 2,
         Name::Out => value.len() != 0,
     }
 }

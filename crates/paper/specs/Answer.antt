@@ -1,5 +1,5 @@
--- Document 01, "Numbers a caller gets back", in its order: 1 to 4, the lines, 17 of the first change request, 13 and 14, 15, which is as
--- far as a call reaches; then 16 and acceptance; and what the lent times and the room hold afterwards.
+-- Document 01, "Numbers a caller gets back", in its order: 1 to 4, the lines, 17 of the first change request, 19 of the eighth, 13 and 14, 15,
+-- which is as far as a call reaches; then 16 and acceptance; and what the lent times and the room hold afterwards.
 use Prim.Native.Nat.{ℕ, zero, suc}
 use mathlib.Core.List.{List, [], _∷_, _++_}
 use mathlib.Core.Bool.{Bool, true, false, cond, _&&_, not}
@@ -11,6 +11,7 @@ use Rattle.paper.specs.Numbers.{numberOf}
 use Rattle.paper.specs.Columns.{nowhere}
 use Rattle.paper.specs.Reading.{Reading, linesOf, readOf}
 use Rattle.paper.specs.Levels.{levelsOf}
+use Rattle.paper.specs.Statistics.{statisticsOf}
 use Rattle.paper.specs.Matching.{matchedOf, matchedCount, unreceivedCount, waitsOf}
 use Rattle.paper.specs.Clock.{Settled, impossible, settled, settle, same, listed, Waits}
 use Rattle.paper.specs.Written.{writtenFrom}
@@ -33,7 +34,7 @@ pub record Given : Type 0 where
 
 -- ---- the limits
 
--- "at most 2,048 listed records"
+-- "at most 2,048 listed records"; `summed` in Statistics.antt is the most of which times are summed
 unfoldable pub most : Given → ℕ
 most g = 2048
 
@@ -47,9 +48,10 @@ longest = 65536
 unfoldable pub choiceOf : ℕ → Option Choice
 choiceOf n = cond (eqb n 1) (some Strict) (cond (eqb n 2) (some Lenient) none)
 
--- what the caller names, none for refusal 1: "0 for off .. or 1 for on; any other is refusal 1"
+-- what the caller names, none for refusal 1: of the levels "0 for off .. or 1 for on; any other is refusal 1", and of the statistics "0 for off
+-- or 1 for on, otherwise refusal 1"
 unfoldable pub heard : Asked → Option Choice
-heard a = cond (leb (a .levels) 1) (choiceOf (a .choice)) none
+heard a = cond (leb (a .levels) 1 && leb (a .statistics) 1) (choiceOf (a .choice)) none
 
 -- "exactly 4,096 unsigned whole numbers", "exactly 2,048 signed 64-bit places": false for refusal 2
 unfoldable pub rightLengths : Given → Bool
@@ -83,10 +85,15 @@ unfoldable pub onMatched : Given → Choice → Reading → Stop → Reached
 onMatched g choice r (At fault site) = stopped fault site
 onMatched g choice r End = onSettled choice r (settle (waitsOf (g .latencies) (r .entries)))
 
+-- "after the line checks and 17, before 13", 19
+unfoldable pub onStatistics : Given → Choice → Reading → Stop → Reached
+onStatistics g choice r (At fault site) = stopped fault site
+onStatistics g choice r End = onMatched g choice r (matchedOf (r .entries))
+
 -- "After the lines are read, and before 13, refuse with 17"
 unfoldable pub onLevels : Given → Choice → Reading → Stop → Reached
 onLevels g choice r (At fault site) = stopped fault site
-onLevels g choice r End = onMatched g choice r (matchedOf (r .entries))
+onLevels g choice r End = onStatistics g choice r (statisticsOf (g .asked) (g .trace) (r .entries))
 
 -- "then line by line, the first bad line deciding"
 unfoldable pub onRead : Given → Choice → Reading → Stop → Reached

@@ -1,5 +1,5 @@
--- Document 01: "Event types are sorted by range", the table, and the listed record types; with the events of change request 2, and those
--- of sends and receives. A negative number -(n + 1) is `negsuc n`, and -n is `minus n`.
+-- Document 01: "Event types are sorted by range", the table, and the listed record types; with the events of change request 2, those of
+-- sends and receives, and the record types of change request 8. A negative number -(n + 1) is `negsuc n`, and -n is `minus n`.
 use Prim.Native.Nat.{ℕ, suc}
 use mathlib.Core.Bool.{Bool, false, cond, _&&_, _||_}
 use mathlib.Core.List.{List, [], _∷_}
@@ -9,12 +9,19 @@ use Rattle.paper.specs.Tests.{minus, oneOf}
 use Rattle.paper.specs.declared.Standing.{Standing}
 use Rattle.paper.specs.declared.Standing.the-variants.{Listed, Message, NotHandled, Unlisted}
 
--- "Listed record types: -2 mark, -3 entry, -4 exit, 0 user data."
+-- "Listed record types: -2 mark, -3 entry, -4 exit, 0 user data." "Record types -101 (times), -102 (counts) and -103 (volumes) become
+-- listed"
 abbrev pub listedKinds : List ℤ
-listedKinds = minus 2 ∷ minus 3 ∷ minus 4 ∷ pos 0 ∷ []
+listedKinds = minus 2 ∷ minus 3 ∷ minus 4 ∷ pos 0 ∷ minus 101 ∷ minus 102 ∷ minus 103 ∷ []
 
 unfoldable pub listedKind : ℤ → Bool
 listedKind k = oneOf listedKinds k
+
+abbrev pub statisticsKinds : List ℤ
+statisticsKinds = minus 101 ∷ minus 102 ∷ minus 103 ∷ []
+
+unfoldable pub isStatistics : ℤ → Bool
+isStatistics k = oneOf statisticsKinds k
 
 -- ---- the table
 
@@ -45,6 +52,11 @@ negative n =
 unfoldable pub standingOf : ℤ → Standing
 standingOf (pos n) = cond (leb n 999999999) Listed Unlisted
 standingOf (negsuc n) = negative (suc n)
+
+-- of a listed record by its record type and its event type. Of statistics: "Their event field may be any whole number: 8 and the event part
+-- of 7 aren't asked."
+unfoldable pub standingFor : ℤ → ℤ → Standing
+standingFor kind event = cond (isStatistics kind) Listed (standingOf event)
 
 -- ---- sends and receives
 

@@ -1,5 +1,5 @@
 -- Document 01, "One line, one record": the forms of a whole number and of a time, read from the bytes of a field, and a time
--- written. A byte is its number: '0' to '9' are 48 to 57, '-' is 45, '.' is 46.
+-- written; and the two quoted descriptors of change request 8. A byte is its number: '0' to '9' are 48 to 57, '-' is 45, '.' is 46.
 use Prim.Native.Nat.{ℕ, zero, suc, _+_, _-_, _*_, _/_, _%_, _^_}
 use mathlib.Core.List.{List, [], _∷_, _++_}
 use mathlib.Core.Bool.{Bool, true, false, cond, _&&_, not}
@@ -7,6 +7,7 @@ use mathlib.Core.Option.{Option, none, some}
 use lib.ListN.{length, getD, take, drop}
 use lib.IntN.{ℤ, pos, negsuc, natAbs}
 use lib.Dec.{ltb, leb, eqb}
+use Rattle.paper.specs.Text.{isSame}
 use Rattle.paper.specs.declared.Field.{Field}
 use Rattle.paper.specs.declared.Field.the-variants.{Good, Bad}
 
@@ -68,6 +69,20 @@ timeSize s =
 -- "Time: optional minus, .. "-0.000000" is bad. Its meaning is signed microseconds"
 unfoldable pub timeOf : List ℕ → Field
 timeOf = behindSign timeSize
+
+-- ---- a quoted descriptor
+
+-- a field that is this text and no other; what it says is 0
+unfoldable pub textOf : List ℕ → List ℕ → Field
+textOf text s = cond (isSame s text) (Good (pos 0)) Bad
+
+-- "The descriptor is the quoted text "%d%lf" for times": '"' is 34, '%' is 37, 'd' is 100, 'f' is 102, 'l' is 108
+unfoldable pub timesQuoted : List ℕ → Field
+timesQuoted = textOf (34 ∷ 37 ∷ 100 ∷ 37 ∷ 108 ∷ 102 ∷ 34 ∷ [])
+
+-- "or "%d%d" for the other two"
+unfoldable pub numbersQuoted : List ℕ → Field
+numbersQuoted = textOf (34 ∷ 37 ∷ 100 ∷ 37 ∷ 100 ∷ 34 ∷ [])
 
 -- ---- a time written "in the form below"
 

@@ -11,6 +11,7 @@ pub mod Columns
 pub mod Reading
 pub mod Levels
 pub mod Matching
+pub mod Statistics
 pub mod Clock
 pub mod Written
 pub mod Answer

@@ -10,8 +10,8 @@ use lib.Signed.{leZ}
 use lib.Dec.{ltb, leb, eqb}
 use Rattle.bytes.specs.Bytes.{indexOf}
 use Rattle.paper.specs.Tests.{eqZ, upTo, minus, oneOf}
-use Rattle.paper.specs.Forms.{wholeOf, timeOf}
-use Rattle.paper.specs.Events.{listedKind, standingOf, sendEvents, receiveEvents}
+use Rattle.paper.specs.Forms.{wholeOf, timeOf, timesQuoted, numbersQuoted}
+use Rattle.paper.specs.Events.{listedKind, isStatistics, standingFor, sendEvents, receiveEvents}
 use Rattle.paper.specs.declared.Choice.{Choice}
 use Rattle.paper.specs.declared.Choice.the-variants.{Strict, Lenient}
 use Rattle.paper.specs.declared.Field.{Field}
@@ -174,7 +174,52 @@ dataOf (suc n) fields =
     cond (leb (suc n) 16) (onFirst (firstOf wholeOf fields) (Values.Bad 6) (λ descriptor fields₁. described (suc n) descriptor fields₁))
     (Values.Bad 5)
 
+-- ---- the data of a statistics line
+
+-- some pairs, an event type and what is told of it, or the field that is bad, missing or too many
+pub data Pairs : Type 0 where
+  unpaired : ℕ → Pairs
+  pairs : List (ℤ × ℤ) → Pairs
+
+abbrev pub paired : ℤ → ℤ → Pairs → Pairs
+paired event v (unpaired k) = unpaired k
+paired event v (pairs ps) = pairs ((event, v) ∷ ps)
+
+-- exactly n pairs from field k on, each a whole number and then a field in the form
+unfoldable pub pairsOf : (List ℕ → Field) → ℕ → ℕ → Option (List ℕ) → Pairs
+pairsOf form k zero none = pairs []
+pairsOf form k zero (some l) = unpaired k
+pairsOf form k (suc n) fields =
+    onFirst (firstOf wholeOf fields) (unpaired k) (λ event fields₁.
+    onFirst (firstOf form fields₁) (unpaired (suc k)) (λ v fields₂.
+    paired event v (pairsOf form (suc (suc k)) n fields₂)))
+
+-- "The descriptor is the quoted text "%d%lf" for times, or "%d%d" for the other two"
+unfoldable pub quotedFor : ℤ → List ℕ → Field
+quotedFor kind = cond (eqZ kind (minus 101)) timesQuoted numbersQuoted
+
+-- what is told of an event: a time, or a whole number
+unfoldable pub toldFor : ℤ → List ℕ → Field
+toldFor kind = cond (eqZ kind (minus 101)) timeOf wholeOf
+
+-- "the data count counts pairs, at most 16"; with none there is no descriptor
+unfoldable pub pairsFor : ℤ → ℕ → Option (List ℕ) → Pairs
+pairsFor kind zero fields = pairsOf (toldFor kind) 6 zero fields
+pairsFor kind (suc n) fields =
+    cond (leb (suc n) 16)
+    (onFirst (firstOf (quotedFor kind) fields) (unpaired 6) (λ descriptor fields₁. pairsOf (toldFor kind) 7 (suc n) fields₁))
+    (unpaired 5)
+
+-- nothing depends on them in the record
+unfoldable pub asPairs : Pairs → Values
+asPairs (unpaired k) = Values.Bad k
+asPairs (pairs ps) = Values.Good Others
+
 -- ---- a listed line
+
+-- the fields behind the six, by the record type
+unfoldable pub valuesIn : ℤ → ℕ → Option (List ℕ) → Values
+valuesIn kind n fields = cond (isStatistics kind) (asPairs (pairsFor kind n fields)) (dataOf n fields)
 
 -- "processor outside 0 to 63 or process not 0", or else the processor
 unfoldable pub placed : ℤ → ℤ → Option ℕ
@@ -227,7 +272,7 @@ withData h processor part (Values.Good values) = withRole h processor values (ro
 -- "then 9"
 unfoldable pub onPlace : Head → Option (List ℕ) → Option ℕ → Line
 onPlace h fields none = Refused Fault.Place (Spot.Field (misplaced h))
-onPlace h fields (some processor) = withData h processor (partOf (h .kind) (h .event)) (dataOf (h .count) fields)
+onPlace h fields (some processor) = withData h processor (partOf (h .kind) (h .event)) (valuesIn (h .kind) (h .count) fields)
 
 -- "then 9, data (5), 10"
 unfoldable pub listedLine : Head → Option (List ℕ) → Line
@@ -246,7 +291,7 @@ sorted choice h fields Standing.Listed = listedLine h fields
 unfoldable pub begun : Choice → Begun → Line
 begun choice (bad fault k) = Refused fault (Spot.Field k)
 begun choice (six h fields) =
-    cond (listedKind (h .kind)) (sorted choice h fields (standingOf (h .event))) (unlisted choice h fields)
+    cond (listedKind (h .kind)) (sorted choice h fields (standingFor (h .kind) (h .event))) (unlisted choice h fields)
 
 unfoldable pub lineOf : Choice → List ℕ → Line
 lineOf choice l = begun choice (headOf l)

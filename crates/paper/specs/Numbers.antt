@@ -1,5 +1,5 @@
 -- Document 01, "Numbers a caller gets back": the table's first column, with 14 as the fourth change request has it; and the numbers of
--- the first, of the sixth and of the seventh.
+-- the first, of the sixth, of the eighth and of the seventh.
 use Prim.Native.Nat.{ℕ}
 use Rattle.paper.specs.declared.Fault.{Fault}
 use Rattle.paper.specs.declared.Fault.the-variants as Fault
@@ -41,5 +41,7 @@ numberOf Fault.NoRoom = 16
 numberOf Fault.OtherLevels = 17
 -- "both hold a listed record of one processor"
 numberOf Fault.SharedProcessor = 18
+-- "A difference is refusal 19"
+numberOf Fault.OtherStatistics = 19
 -- "a place not below the listed count"
 numberOf Fault.NoPlace = 22

@@ -1,14 +1,15 @@
 // Document 01 as definitions. The code of this crate is the words that answers are made of; what they mean stands in specs/,
 // a file to each part of the paper and in the paper's order. The contracts of the other crates cite these definitions.
 
-// "at most 2,048 listed records"
+// "at most 2,048 listed records". Sums of times are kept modulo 2^64 (change request 8), which tells them apart up to 18,445 records:
+// `summed` in specs/Statistics.antt.
 pub const MOST: usize = 2048;
 
 // "trace at most 65,536 bytes"
 pub const LONGEST: usize = 65536;
 
 // What the caller names beside the trace and the table, with no default, laid out as C has it: the choice, whether the tracing levels
-// are asked for, and the three that are expected then, in the order of a mark's data.
+// are asked for, the three that are expected then, in the order of a mark's data, and whether the statistics records are compared.
 #[repr(C)]
 pub struct Asked {
     pub choice: u32,
@@ -16,6 +17,7 @@ pub struct Asked {
     pub picl: i64,
     pub user: i64,
     pub trace: i64,
+    pub statistics: u32,
 }
 
 // "strict or lenient"
@@ -39,7 +41,7 @@ pub enum Standing {
 }
 
 // Why something is refused: a case for each row of the paper's table of numbers, from 1 to 16, then 17 of the first change request, 18 of
-// the sixth and 22 of the seventh.
+// the sixth, 19 of the eighth and 22 of the seventh.
 pub enum Fault {
     BadChoice,
     WrongLength,
@@ -59,6 +61,7 @@ pub enum Fault {
     NoRoom,
     OtherLevels,
     SharedProcessor,
+    OtherStatistics,
     NoPlace,
 }
 
@@ -72,7 +75,7 @@ pub struct Head {
     pub count: usize,
 }
 
-// The data of a listed record, as far as anything depends on them: three whole numbers, or anything else.
+// The data of a listed record, as far as anything depends on them once it is read: three whole numbers, or anything else.
 pub enum Data {
     Three(i64, i64, i64),
     Others,

@@ -1,3 +1,4 @@
 pub mod OneOf
 pub mod Parts
+pub mod Statistics
 pub mod Outcome

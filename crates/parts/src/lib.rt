@@ -1,14 +1,17 @@
-// What a record is by its record type and its event type: whether the first is listed, and whether it is a send, a receive or neither.
-// Each is a list of numbers: another event that becomes a message is a number more.
+// What a record is by its record type and its event type: whether the first is listed, whether it is that of statistics, and whether the record
+// is a send, a receive or neither. Each is a list of numbers: another event that becomes a message is a number more.
 ghost use mathlib.Core.Path.{_≡_};
 ghost use mathlib.Core.Bool.{_&&_};
 ghost use Rattle.paper.specs.Tests.{eqZ, oneOf};
-ghost use Rattle.paper.specs.Events.{listedKind};
+ghost use Rattle.paper.specs.Events.{listedKind, isStatistics};
 ghost use Rattle.paper.specs.Line.{partOf};
 use paper::Part;
 
-// "Listed record types: -2 mark, -3 entry, -4 exit, 0 user data."
-const KINDS: [i64; 4] = [-2, -3, -4, 0];
+// "Listed record types: -2 mark, -3 entry, -4 exit, 0 user data." "Record types -101 (times), -102 (counts) and -103 (volumes) become
+// listed"
+const KINDS: [i64; 7] = [-2, -3, -4, 0, -101, -102, -103];
+
+const STATISTICS: [i64; 3] = [-101, -102, -103];
 
 // "A send is an entry record of -21", "also sendbegin0's entry"
 const SENDS: [i64; 2] = [-21, -27];
@@ -33,6 +36,16 @@ pub fn listed_kind(kind: i64) -> bool
     ensures { λ r. ⌜ r ≡ listedKind kind ⌝ }
 {
     one_of(&KINDS, kind)
+}
+
+// One comparison for every other listed record type, all of which are above these.
+pub fn is_statistics(kind: i64) -> bool
+    ensures { λ r. ⌜ r ≡ isStatistics kind ⌝ }
+{
+    if signed::earlier(-101, kind) {
+        return false;
+    }
+    one_of(&STATISTICS, kind)
 }
 
 // A record of this type, and of one of these events.

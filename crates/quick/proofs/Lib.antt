@@ -7,4 +7,5 @@ pub mod Stops
 pub mod Moves
 pub mod Opens
 pub mod Takes
+pub mod Paired
 pub mod Outcome

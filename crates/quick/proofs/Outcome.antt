@@ -6,6 +6,7 @@ use mathlib.Core.Bool.{Bool, true, false}
 use native.Mathlib.Omega.{arith}
 use lib.ListN.{length, drop}
 use lib.Seq.{length-take-le}
+use lib.IntN.{ℤ}
 use Rattle.bytes.specs.Bytes.{indexOf}
 use Rattle.paper.specs.Line.{six}
 use Rattle.paper.specs.declared.Data.{Data}
@@ -43,10 +44,11 @@ one-six s at h g a b n m e f =
     let one = one-rest s a b n m rest (sym (e .same) ∙ f .same) in
     rw (head, one .0, one .1)
 
-pub one-data : (s : List ℕ) (ended : Bool) (at k : ℕ) (v w : Data) (n m : ℕ) → HoldsAt s ended at k (Holds.Of v n) → HoldsAt s ended at k (Holds.Of w m)
+pub one-data : (s : List ℕ) (ended : Bool) (at : ℕ) (kind : ℤ) (k : ℕ) (v w : Data) (n m : ℕ) → HoldsAt s ended at kind k (Holds.Of v n)
+    → HoldsAt s ended at kind k (Holds.Of w m)
     → Holds.Of v n ≡ Holds.Of w m
 unfolding HoldsAt DataAt
-one-data s ended at k v w n m e f =
+one-data s ended at kind k v w n m e f =
     let both : Good v ≡ Good w = e .is ∙ sym (f .is) in
     let same : v ≡ w = cc in
     rw (same, ← e .ends, ← f .ends)

@@ -1,15 +1,18 @@
--- The byte behind a number.
+-- The byte behind a number, and behind a text.
 use Prim.Native.Nat.{ℕ, _+_, _-_, _≤_, _<_}
 use mathlib.Core.Path.{_≡_, refl, sym, ap, subst, _∙_}
 use mathlib.Core.List.{List, _++_}
 use mathlib.Core.Bool.{Bool, true, false, cond, not}
 use native.Mathlib.Omega.{arith}
-use lib.ListN.{length, getD}
-use lib.IntN.{ℤ}
+use lib.ListN.{length, getD, take, drop, take-append-drop}
+use lib.Seq.{drop-drop}
+use lib.IntN.{ℤ, pos}
 use lib.Dec.{eqb}
 use borrow.Author.Tests.{eq-eqb, ne-eqb, eqb-true}
-use Rattle.paper.specs.Forms.{isDigit, wholeOf, wholeSize}
+use Rattle.paper.specs.Text.{isSame}
+use Rattle.paper.specs.Forms.{isDigit, wholeOf, wholeSize, textOf}
 use Rattle.paper.specs.declared.Field.{Field}
+use Rattle.forms.proofs.Texts.{same-self, same-means}
 use Rattle.quick.specs.declared.digits.Sized.{Sized}
 use Rattle.quick.specs.declared.digits.Sized.the-variants as Sized
 use Rattle.quick.specs.declared.number.Number.{Number}
@@ -76,3 +79,18 @@ pub wider : (form : List ℕ → Field) (most more : ℕ) (s : List ℕ) (at sto
 unfolding FieldAt
 wider form most more s at stop (Of v next) h t = (t .0, omega (arith, t .1))
 wider form most more s at stop Doubt h t = tt
+
+-- a text that was compared with the bytes from the cursor on
+pub text-here : (s : List ℕ) (at : ℕ) (text : List ℕ) {same : Bool} → same ≡ isSame (take (at + length text - at) (drop at s)) text → same ≡ true
+    → NumberAt (textOf text) (length text) s at (Of (pos 0) (at + length text))
+unfolding NumberAt textOf
+text-here s at text tells is =
+    let many : at + length text - at ≡ length text = omega arith in
+    let there : take (length text) (drop at s) ≡ text = same-means _ text (rw many at (sym tells ∙ is)) in
+    record {
+      word = text;
+      is = rw (← drop-drop (length text) at s) (sym (ap (λ (l : List ℕ). l ++ drop (length text) (drop at s)) (sym there) ∙ take-append-drop (length text) (drop at s)));
+      reads = rw (same-self text);
+      long = refl;
+      few = omega arith;
+    }

@@ -18,10 +18,12 @@ use Rattle.paper.specs.declared.Values.{Values}
 use Rattle.paper.specs.declared.Values.the-variants.{Good}
 use Rattle.field.specs.Cursor.{readAs}
 use Rattle.field.specs.declared.Form.{Form}
-use Rattle.field.specs.declared.Form.the-variants.{Whole, Time}
+use Rattle.field.specs.declared.Form.the-variants.{Whole, Time, TimesQuoted, NumbersQuoted}
 use Rattle.reading.specs.Places.{lineAt, nextLine}
 use Rattle.reading.specs.Rests.{fieldsFrom, endFrom, Ended}
+use Rattle.values.specs.Few.{Few}
 use Rattle.values.proofs.Values.{not-three, with-descriptor}
+use Rattle.values.proofs.Either.{nothing-due}
 use Rattle.quick.specs.declared.Holds.{Holds}
 use Rattle.quick.specs.declared.Holds.the-variants as Holds
 use Rattle.quick.specs.Lines.{Told, inForm, lastOf, DataAt, HoldsAt}
@@ -84,8 +86,12 @@ taking-start form n s at h =
       last = record { one = λ e. absurd (omega arith); two = λ e. absurd (omega arith); three = λ e. absurd (omega arith) };
     }
 
+-- before the last one there are some
+pub going : (left : ℕ) → 0 < left → eqb left 0 ≡ false
+going left h = ne-eqb left 0 (λ z. omega arith)
+
 -- the last one is the one before none
-last-test : (left : ℕ) → 0 < left → eqb (left - 1) 0 ≡ eqb left 1
+pub last-test : (left : ℕ) → 0 < left → eqb (left - 1) 0 ≡ eqb left 1
 last-test left h = go (eqb left 1) refl
   where
     go : (t : Bool) → eqb left 1 ≡ t → eqb (left - 1) 0 ≡ t
@@ -100,9 +106,6 @@ step form k (suc left) h f g v e = let one : suc left - 1 ≡ left = omega arith
 
 module _ {form : Form} {n : ℕ} {s : List ℕ} {at : ℕ} {a b c : ℤ} {p left : ℕ} (taking : Taking form n s at a b c p left) where
   module _ (h : 0 < left) where
-    going : eqb left 0 ≡ false
-    going = ne-eqb left 0 (λ z. omega arith)
-
     pub taking-more : {v u : ℤ} (next : ℕ) → u ≡ v → {last : Bool} → last ≡ eqb left 1
         → Told (firstOf (readAs form) (some (lineAt s p))) (first v) s p last next → Taking form n s at b c u next (left - 1)
     unfolding fieldsFrom endFrom
@@ -114,7 +117,7 @@ module _ {form : Form} {n : ℕ} {s : List ℕ} {at : ℕ} {a b c : ℤ} {p left
           vs = taking .vs ++ (v ∷ []);
           k = suc (taking .k);
           many = rw length-append (omega (arith, taking .many));
-          reads = taking .reads ∙ ap (prefixed (taking .vs)) (rw going (step (readAs form) (taking .k) left h (some (lineAt s p)) _ v read)) ∙ one-more (taking .vs) v _;
+          reads = taking .reads ∙ ap (prefixed (taking .vs)) (rw (going left h) (step (readAs form) (taking .k) left h (some (lineAt s p)) _ v read)) ∙ one-more (taking .vs) v _;
           same = taking .same ∙ rw going end;
           near = λ here. told .near;
           last = rw e (last-more (taking .vs) v (taking .last));
@@ -139,6 +142,8 @@ module _ {form : Form} {n : ℕ} {s : List ℕ} {at : ℕ} {a b c : ℤ} {p left
         go : (form : Form) (t : Bool) → eqb n 3 ≡ t → valuesOf (readAs form) 7 n (some (lineAt s at)) ≡ numbers (taking .vs) → Last (taking .vs) a b c
             → length (taking .vs) + left ≡ n → Good (lastOf form n a b c) ≡ inForm form n (some (lineAt s at))
         go Time t e is last many = rw is
+        go TimesQuoted t e is last many = rw is
+        go NumbersQuoted t e is last many = rw is
         go Whole true e is last many = rw (e, is) (three (taking .vs) (last .three (omega (arith, eqb-true n 3 e))))
         go Whole false e is last many = rw (e, ← not-three (readAs Whole) 7 n (some (lineAt s at)) (eqb-false n 3 e), is)
 
@@ -155,18 +160,24 @@ module _ (s : List ℕ) (at : ℕ) where
   as-described there inside (Holds.Of values next) e t = record { is = t .is ∙ e _; ends = t .ends; near = t .near }
   as-described there inside Holds.Doubt e t = tt
 
-pub behind-descriptor : (s : List ℕ) (at next n : ℕ) {u d : ℤ} → (n ≡ 0 → ⊥) → n ≤ 16 → u ≡ d
-    → Told (firstOf wholeOf (some (lineAt s at))) (first d) s at false next → (r : Holds) → DataAt (described n u) s false next r → HoldsAt s false at n r
-unfolding DataAt HoldsAt fieldsFrom endFrom
-behind-descriptor s at next n z h e told (Holds.Of values end) t =
-    record {
-      is = t .is ∙ with-descriptor (some (lineAt s at)) n z h _ (some (lineAt s next)) (told .reads) e;
-      ends = told .same ∙ t .ends;
-      near = λ k. t .near (told .near);
-    }
-behind-descriptor s at next n z h e told Holds.Doubt t = tt
+  -- what is behind the first field, whatever it says
+  pub behind-first : (there inside : Option (List ℕ) → Values) (form : List ℕ → Field) {d : ℤ} (next : ℕ)
+      → Told (firstOf form (some (lineAt s at))) (first d) s at false next
+      → ((f : Option (List ℕ)) → firstOf form (some (lineAt s at)) ≡ first d f → inside f ≡ there (some (lineAt s at)))
+      → (r : Holds) → DataAt inside s false next r → DataAt there s false at r
+  unfolding DataAt fieldsFrom endFrom
+  behind-first there inside form next told e (Holds.Of values end) t =
+      record { is = t .is ∙ e (some (lineAt s next)) (told .reads); ends = told .same ∙ t .ends; near = λ k. t .near (told .near) }
+  behind-first there inside form next told e Holds.Doubt t = tt
 
-pub no-data-here : (s : List ℕ) (at n : ℕ) → n ≡ 0 → HoldsAt s true at n (Holds.Of Others at)
-unfolding DataAt HoldsAt fieldsFrom endFrom dataOf valuesOf asOthers
-no-data-here s at zero e = record { is = refl; ends = refl; near = λ k. k }
-no-data-here s at (suc n) e = absurd (omega arith)
+  pub behind-descriptor : (next n : ℕ) {u d : ℤ} → Few n → u ≡ d → Told (firstOf wholeOf (some (lineAt s at))) (first d) s at false next
+      → (r : Holds) → DataAt (described n u) s false next r → DataAt (dataOf n) s false at r
+  behind-descriptor next n {u} few e told r t =
+      behind-first (dataOf n) (described n u) wholeOf next told (λ f is. with-descriptor (some (lineAt s at)) n few _ f is e) r t
+
+pub same-kind : (s : List ℕ) (ended : Bool) (at n : ℕ) (r : Holds) {u kind : ℤ} → u ≡ kind → HoldsAt s ended at u n r → HoldsAt s ended at kind n r
+same-kind s ended at n r e t = rw (← e) t
+
+pub no-data-here : (s : List ℕ) (at : ℕ) (kind : ℤ) (n : ℕ) → n ≡ 0 → HoldsAt s true at kind n (Holds.Of Others at)
+unfolding DataAt HoldsAt fieldsFrom endFrom
+no-data-here s at kind n e = record { is = nothing-due kind n e; ends = refl; near = λ k. k }

@@ -7,7 +7,7 @@ use mathlib.Core.Option.{Option, some}
 use lib.ListN.{length}
 use lib.IntN.{ℤ, pos}
 use lib.Dec.{eqb}
-use Rattle.paper.specs.Line.{first, firstOf, countOf, Begun, six, placeOf, headOf, valuesOf, asWholes, asOthers, dataOf}
+use Rattle.paper.specs.Line.{first, firstOf, countOf, Begun, six, placeOf, headOf, valuesOf, asWholes, asOthers, pairsOf, pairsFor, asPairs, valuesIn}
 use Rattle.paper.specs.declared.Field.{Field}
 use Rattle.paper.specs.declared.Data.{Data}
 use Rattle.paper.specs.declared.Data.the-variants.{Three, Others}
@@ -15,7 +15,7 @@ use Rattle.paper.specs.declared.Values.{Values}
 use Rattle.paper.specs.declared.Values.the-variants.{Good}
 use Rattle.field.specs.Cursor.{readAs}
 use Rattle.field.specs.declared.Form.{Form}
-use Rattle.field.specs.declared.Form.the-variants.{Whole, Time}
+use Rattle.field.specs.declared.Form.the-variants.{Whole, Time, TimesQuoted, NumbersQuoted}
 use Rattle.reading.specs.Places.{lineAt, nextLine}
 use Rattle.reading.specs.Rests.{fieldsFrom, endFrom, Ended}
 use Rattle.quick.specs.declared.Begins.{Begins}
@@ -68,15 +68,26 @@ BeginsAt s at = OpensAt (headOf (lineAt s at)) s at
 unfoldable pub inForm : Form → ℕ → Option (List ℕ) → Values
 inForm Whole n fields = asWholes (valuesOf (readAs Whole) 7 n fields)
 inForm Time n fields = asOthers (valuesOf (readAs Time) 7 n fields)
+inForm TimesQuoted n fields = asOthers (valuesOf (readAs TimesQuoted) 7 n fields)
+inForm NumbersQuoted n fields = asOthers (valuesOf (readAs NumbersQuoted) 7 n fields)
 
 -- what is kept of them: the last three, where they are all and whole numbers
 unfoldable pub lastOf : Form → ℕ → ℤ → ℤ → ℤ → Data
 lastOf Whole n a b c = cond (eqb n 3) (Three a b c) Others
 lastOf Time n a b c = Others
+lastOf TimesQuoted n a b c = Others
+lastOf NumbersQuoted n a b c = Others
+
+-- n pairs of a whole number and a field in the form, and those of a statistics record
+unfoldable pub inPairs : Form → ℕ → Option (List ℕ) → Values
+inPairs form n fields = asPairs (pairsOf (readAs form) 7 n fields)
+
+unfoldable pub pairsIn : ℤ → ℕ → Option (List ℕ) → Values
+pairsIn kind n fields = asPairs (pairsFor kind n fields)
 
 unfoldable pub DataAt : (Option (List ℕ) → Values) → List ℕ → Bool → ℕ → Holds → Type 0
 DataAt there s ended at (Holds.Of values next) = Ended (Good values) (there (fieldsFrom s ended at)) s ended at next
 DataAt there s ended at Holds.Doubt = Unit
 
-unfoldable pub HoldsAt : List ℕ → Bool → ℕ → ℕ → Holds → Type 0
-HoldsAt s ended at n = DataAt (dataOf n) s ended at
+unfoldable pub HoldsAt : List ℕ → Bool → ℕ → ℤ → ℕ → Holds → Type 0
+HoldsAt s ended at kind n = DataAt (valuesIn kind n) s ended at

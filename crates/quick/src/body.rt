@@ -3,19 +3,22 @@ ghost use mathlib.Core.Path.{_≡_};
 ghost use Prim.Native.Nat.{ℕ, _<_};
 ghost use mathlib.Core.List.{List};
 ghost use mathlib.Core.Bool.{true, false};
+ghost use lib.IntN.{ℤ};
 ghost use Rattle.paper.specs.Line as paper;
 ghost use Rattle.field.specs.Cursor.{readAs};
+ghost use Rattle.values.specs.Few.{Few};
 ghost use Rattle.quick.specs.Lines.{ValueAt, inForm, lastOf, DataAt, HoldsAt};
 use crate::Holds;
 use crate::head;
 use crate::number;
 use crate::number::Number;
+use crate::pairs;
 use field::Form;
 use paper::Data;
 
 // The line ends before any.
 pub(crate) fn none(n: usize, at: usize) -> Holds
-    ensures { λ r. ⌜ ((s : List ℕ) → HoldsAt s true at n r) ⌝ }
+    ensures { λ r. ⌜ ((s : List ℕ) (kind : ℤ) → HoldsAt s true at kind n r) ⌝ }
 {
     if n == 0 {
         return Holds::Of(Data::Others, at);
@@ -23,8 +26,8 @@ pub(crate) fn none(n: usize, at: usize) -> Holds
     Holds::Doubt
 }
 
-// A datum in the form. With the byte behind it it is at most 18 bytes.
-fn value(s: &[u8], at: usize, form: Form, last: bool) -> Number
+// A field in the form. With the byte behind it it is at most 18 bytes.
+pub(crate) fn value(s: &[u8], at: usize, form: Form, last: bool) -> Number
     ensures { λ r. ⌜ ValueAt (readAs form) (now (s .entry)) at last r ⌝ }
 {
     let n = s.len();
@@ -49,6 +52,8 @@ fn kept(form: Form, n: usize, a: i64, b: i64, c: i64) -> Data
             Data::Others
         }
         Form::Time => Data::Others,
+        Form::TimesQuoted => Data::Others,
+        Form::NumbersQuoted => Data::Others,
     }
 }
 
@@ -89,9 +94,20 @@ fn described(s: &[u8], at: usize, n: usize, descriptor: i64) -> Holds
     Holds::Doubt
 }
 
-// "a descriptor and the data", "in a listed record at most 16"
-pub(crate) fn some(s: &[u8], at: usize, n: usize) -> Holds
-    ensures { λ r. ⌜ HoldsAt (now (s .entry)) false at n r ⌝ }
+// "a descriptor and the data"
+fn data(s: &[u8], at: usize, n: usize) -> Holds
+    requires { ⌜ Few n ⌝ }
+    ensures { λ r. ⌜ DataAt (paper.dataOf n) (now (s .entry)) false at r ⌝ }
+{
+    let Number::Of(descriptor, next) = value(s, at, Form::Whole, false) else {
+        return Holds::Doubt;
+    };
+    described(s, next, n, descriptor)
+}
+
+// "in a listed record at most 16", data or pairs
+pub(crate) fn some(s: &[u8], at: usize, kind: i64, n: usize) -> Holds
+    ensures { λ r. ⌜ HoldsAt (now (s .entry)) false at kind n r ⌝ }
 {
     if n == 0 {
         return Holds::Doubt;
@@ -99,8 +115,8 @@ pub(crate) fn some(s: &[u8], at: usize, n: usize) -> Holds
     if 16 < n {
         return Holds::Doubt;
     }
-    let Number::Of(descriptor, next) = value(s, at, Form::Whole, false) else {
-        return Holds::Doubt;
-    };
-    described(s, next, n, descriptor)
+    if parts::is_statistics(kind) {
+        return pairs::described(s, at, kind, n);
+    }
+    data(s, at, n)
 }

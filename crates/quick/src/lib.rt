@@ -4,6 +4,7 @@ mod body;
 mod digits;
 mod head;
 mod number;
+mod pairs;
 mod stamp;
 
 ghost use Rattle.quick.specs.Lines.{BeginsAt, HoldsAt};
@@ -37,12 +38,12 @@ pub fn read_six(s: &[u8], at: usize) -> Begins
     head::six(s, at)
 }
 
-// The n data behind them.
-pub fn read_data(s: &[u8], ended: bool, at: usize, n: usize) -> Holds
-    ensures { λ r. ⌜ HoldsAt (now (s .entry)) ended at n r ⌝ }
+// The n data behind them, or in a statistics record the n pairs.
+pub fn read_data(s: &[u8], ended: bool, at: usize, kind: i64, n: usize) -> Holds
+    ensures { λ r. ⌜ HoldsAt (now (s .entry)) ended at kind n r ⌝ }
 {
     if ended {
         return body::none(n, at);
     }
-    body::some(s, at, n)
+    body::some(s, at, kind, n)
 }

@@ -1,8 +1,9 @@
-// A whole number or a time that starts at the cursor: a size read behind its sign, and the byte that is due behind it.
+// A whole number or a time that starts at the cursor: a size read behind its sign, and the byte that is due behind it. Or one of the quoted
+// descriptors.
 ghost use mathlib.Core.Path.{_≡_};
 ghost use Prim.Native.Nat.{_+_, _^_, _<_, _≤_};
 ghost use lib.ListN.{length, getD};
-ghost use Rattle.paper.specs.Forms.{wholeOf, timeOf};
+ghost use Rattle.paper.specs.Forms.{wholeOf, timeOf, textOf};
 ghost use Rattle.field.specs.Cursor.{readAs};
 ghost use Rattle.quick.specs.Words.{NumberAt, FieldAt, startAt, Within, signedBy, Inside, stoppedBy};
 use crate::digits;
@@ -109,6 +110,18 @@ pub(crate) fn time(s: &[u8], at: usize, stop: u8) -> Number
     stopped(s, signed_time(s, at), stop)
 }
 
+// This text, and the byte that is due behind it.
+fn quoted(s: &[u8], at: usize, text: &[u8], stop: u8) -> Number
+    requires { ⌜ at + length (now text) < length (now s) ⌝ }
+    ensures { λ r. ⌜ FieldAt (textOf (now (text .entry))) (length (now (text .entry)) + 1) (now (s .entry)) at stop r ⌝ }
+{
+    let end = at + text.len();
+    if texts::is_same(&s[at..end], text) {
+        return stopped(s, Number::Of(0, end), stop);
+    }
+    Number::Doubt
+}
+
 pub(crate) fn in_form(form: Form, s: &[u8], at: usize, stop: u8) -> Number
     requires { ⌜ at + 18 ≤ length (now s) ⌝ }
     ensures { λ r. ⌜ FieldAt (readAs form) 18 (now (s .entry)) at stop r ⌝ }
@@ -116,5 +129,7 @@ pub(crate) fn in_form(form: Form, s: &[u8], at: usize, stop: u8) -> Number
     match form {
         Form::Whole => whole(s, at, stop),
         Form::Time => time(s, at, stop),
+        Form::TimesQuoted => quoted(s, at, b"\"%d%lf\"", stop),
+        Form::NumbersQuoted => quoted(s, at, b"\"%d%d\"", stop),
     }
 }

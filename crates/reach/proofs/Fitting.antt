@@ -1,5 +1,5 @@
 -- Slices that fit, and slices that do not.
-use Prim.Native.Nat.{ℕ, _<_}
+use Prim.Native.Nat.{ℕ, _≤_}
 use native.Mathlib.Omega.{arith}
 use mathlib.Core.Path.{_≡_, refl, sym, _∙_}
 use mathlib.Core.List.{List, [], _∷_}
@@ -10,8 +10,9 @@ use lib.Dec.{eqb}
 use borrow.Author.Tests.{eq-eqb, ne-eqb, eqb-true}
 use Rattle.paper.specs.Answer.{Given, most, onRead, reach}
 use Rattle.paper.specs.Reading.{readOf}
+use Rattle.paper.specs.Statistics.{summed}
 use Rattle.paper.specs.declared.Choice.{Choice}
-use Rattle.store.specs.Layout.{tooMany, capacity}
+use Rattle.store.specs.Layout.{capacity}
 use Rattle.engine.specs.Promise.{allAre}
 use Rattle.forms.proofs.Tests.{both}
 use Rattle.reach.specs.declared.Reached.{Reached}
@@ -71,7 +72,7 @@ module _ (g : Given) (store sends before latency : List ℕ) (times spare : List
         let (room, all) = both (eqb (capacity store) (most g)) (allAre (capacity store) (length times ∷ length sends ∷ length before ∷ length latency ∷ length spare ∷ [])) (is-told ∙ fitted) in
         (eqb-true (capacity store) (most g) room, all)
 
-    pub sized : most g < tooMany → Sized (capacity store) sends before latency times spare
+    pub sized : most g ≤ summed → Sized (capacity store) sends before latency times spare
     sized few =
         let a = next (length times) (length sends ∷ length before ∷ length latency ∷ length spare ∷ []) (whole .1) in
         let b = next (length sends) (length before ∷ length latency ∷ length spare ∷ []) (a .1) in

@@ -7,9 +7,10 @@ use native.Mathlib.Omega.{arith}
 use lib.ListN.{length}
 use lib.Dec.{leb}
 use Rattle.paper.specs.Columns.{nowhere}
-use Rattle.paper.specs.Answer.{Given, Found, stopped, found, most, longest, heard, rightLengths, lowLatencies, onSettled, onMatched, onLevels, onRead, onChoice, reach}
+use Rattle.paper.specs.Answer.{Given, Found, stopped, found, most, longest, heard, rightLengths, lowLatencies, onSettled, onMatched, onStatistics, onLevels, onRead, onChoice, reach}
 use Rattle.paper.specs.Clock.{Settled, impossible, settled, settle}
 use Rattle.paper.specs.Levels.{levelsOf}
+use Rattle.paper.specs.Statistics.{statisticsOf}
 use Rattle.paper.specs.Matching.{matchedOf, waitsOf}
 use Rattle.paper.specs.Reading.{Reading, readOf}
 use Rattle.paper.specs.declared.Choice.{Choice}
@@ -25,6 +26,7 @@ pub record Means (g : Given) (f : Found) : Type 0 where
   pub reading : f .reading ≡ readOf (f .choice) (most g) (g .trace)
   pub whole : f .reading .stop ≡ End
   pub levels : levelsOf (g .asked) (f .reading .entries) ≡ End
+  pub statistics : statisticsOf (g .asked) (g .trace) (f .reading .entries) ≡ End
   pub matches : matchedOf (f .reading .entries) ≡ End
   pub settles : settle (waitsOf (g .latencies) (f .reading .entries)) ≡ settled (f .rounds) (f .times)
 
@@ -45,17 +47,25 @@ module _ (g : Given) (f : Found) where
       (rw q, rw q)
 
   module _ (lengths : rightLengths g ≡ true) (choice : Choice) where
-    on-matched : r choice .stop ≡ End → levelsOf (g .asked) (r choice .entries) ≡ End → (x : Stop) → matchedOf (r choice .entries) ≡ x → onMatched g choice (r choice) x ≡ found f → Means g f
+    on-matched : r choice .stop ≡ End → levelsOf (g .asked) (r choice .entries) ≡ End → statisticsOf (g .asked) (g .trace) (r choice .entries) ≡ End
+        → (x : Stop) → matchedOf (r choice .entries) ≡ x → onMatched g choice (r choice) x ≡ found f → Means g f
     unfolding onMatched
-    on-matched whole levels (At fault site) p e = never e
-    on-matched whole levels End p e =
+    on-matched whole levels statistics (At fault site) p e = never e
+    on-matched whole levels statistics End p e =
         let (is, settles) = on-settled choice (r choice) (settle (waitsOf (g .latencies) (r choice .entries))) e in
-        rw is (record { lengths = lengths; reading = refl; whole = whole; levels = levels; matches = p; settles = settles })
+        rw is
+        (record { lengths = lengths; reading = refl; whole = whole; levels = levels; statistics = statistics; matches = p; settles = settles })
+
+    on-statistics : r choice .stop ≡ End → levelsOf (g .asked) (r choice .entries) ≡ End
+        → (x : Stop) → statisticsOf (g .asked) (g .trace) (r choice .entries) ≡ x → onStatistics g choice (r choice) x ≡ found f → Means g f
+    unfolding onStatistics
+    on-statistics whole levels (At fault site) p e = never e
+    on-statistics whole levels End p e = on-matched whole levels p (matchedOf (r choice .entries)) refl e
 
     on-levels : r choice .stop ≡ End → (x : Stop) → levelsOf (g .asked) (r choice .entries) ≡ x → onLevels g choice (r choice) x ≡ found f → Means g f
     unfolding onLevels
     on-levels whole (At fault site) p e = never e
-    on-levels whole End p e = on-matched whole p (matchedOf (r choice .entries)) refl e
+    on-levels whole End p e = on-statistics whole p (statisticsOf (g .asked) (g .trace) (r choice .entries)) refl e
 
     on-read : (x : Stop) → r choice .stop ≡ x → onRead g choice (r choice) x ≡ found f → Means g f
     unfolding onRead

@@ -10,6 +10,7 @@ use lib.ListN.{length, take}
 use lib.Seq.{take-at, length-take-le}
 use lib.IntN.{ℤ}
 use borrow.Author.Tests.{lt-ltb, le-leb, eq-eqb}
+use Rattle.paper.specs.Statistics.{summed}
 use Rattle.store.specs.Layout.{tooMany, capacity, entriesIn}
 use Rattle.engine.specs.Promise.{allAre}
 use Rattle.solve.specs.declared.Solved.{Solved}
@@ -18,7 +19,7 @@ use Rattle.reach.specs.declared.Reached.{Reached}
 use Rattle.reach.specs.Lines.{Sized, asReached, SettledBy}
 
 -- the first places of a slice of n
-part-long : {A : Type 0} (l : List A) {n listed : ℕ} → length l ≡ n → listed ≤ n → length (take (listed - 0) l) ≡ listed
+pub part-long : {A : Type 0} (l : List A) {n listed : ℕ} → length l ≡ n → listed ≤ n → length (take (listed - 0) l) ≡ listed
 part-long l {n} {listed} e h = rw sub-zero (length-take-le listed l (omega arith))
 
 abbrev pub first : {A : Type 0} → ℕ → List A → List A
@@ -39,7 +40,7 @@ module _ (latencies store : List ℕ) (listed passed : ℕ) {n : ℕ} {sends bef
 
   fits : fitting (length (first listed times)) (capacity store)
       (length (first listed sends) ∷ length (first listed before) ∷ length (first listed latency) ∷ length (first listed spare) ∷ []) ≡ true
-  unfolding fitting allAre
+  unfolding fitting allAre summed
   fits =
       rw (
         many,

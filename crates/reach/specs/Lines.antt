@@ -1,6 +1,6 @@
--- What the functions behind 1 to 4 have in hand, and what they come to. Of what the caller named only the levels are still asked, and how
--- many times are lent is not.
-use Prim.Native.Nat.{ℕ, _<_}
+-- What the functions behind 1 to 4 have in hand, and what they come to. Of what the caller named only the levels and the statistics are still
+-- asked, and how many times are lent is not.
+use Prim.Native.Nat.{ℕ, _≤_}
 use mathlib.Core.Path.{_≡_}
 use mathlib.Core.List.{List}
 use lib.ListN.{length, take}
@@ -9,24 +9,25 @@ use Rattle.paper.specs.Answer.{onRead}
 use Rattle.paper.specs.Columns.{nowhere}
 use Rattle.paper.specs.Levels.{levelsOf}
 use Rattle.paper.specs.Reading.{Reading}
+use Rattle.paper.specs.Statistics.{summed, statisticsOf}
 use Rattle.paper.specs.declared.Asked.{Asked}
 use Rattle.paper.specs.declared.Choice.{Choice}
 use Rattle.paper.specs.declared.Entry.{Entry}
 use Rattle.paper.specs.declared.Fault.the-variants as Fault
 use Rattle.paper.specs.declared.Stop.{Stop}
 use Rattle.paper.specs.declared.Stop.the-variants.{End, At}
-use Rattle.store.specs.Layout.{tooMany}
 use Rattle.solve.specs.declared.Solved.{Solved}
 use Rattle.solve.specs.declared.Solved.the-variants as Solved
 use Rattle.solve.specs.Outcome.{solvedBy}
+use Rattle.statistics.specs.Ready.{Holding}
 use Rattle.reach.specs.declared.Reached.{Reached}
 use Rattle.reach.specs.declared.Reached.the-variants.{Times, Refused, Misfit}
 use Rattle.clearance.specs.Clearance.{givenOf}
 use Rattle.reach.specs.Reach.{reaches}
 
--- slices for n records each; places are numbers of 32 bits
+-- slices for n records each, so few that their times are summed; a place is then a number of 32 bits
 pub record Sized (n : ℕ) (sends before latency : List ℕ) (times spare : List ℤ) : Type 0 where
-  pub few : n < tooMany
+  pub few : n ≤ summed
   pub all-sends : length sends ≡ n
   pub all-before : length before ≡ n
   pub all-latency : length latency ≡ n
@@ -54,6 +55,20 @@ pub record SettledBy (latencies : List ℕ) (es : List Entry) (listed passed : �
 unfoldable pub levelled : Asked → List Entry → Stop → Stop
 levelled asked es (At fault site) = At fault site
 levelled asked es End = levelsOf asked es
+
+-- the records beside the trace that they were read from, and slices with a place for each
+pub record Comparable (trace store : List ℕ) (listed : ℕ) (before latency : List ℕ) (times spare : List ℤ) : Type 0 where
+  pub few : listed ≤ summed
+  pub in-before : listed ≤ length before
+  pub all-latency : length latency ≡ length before
+  pub all-times : length times ≡ length before
+  pub all-spare : length spare ≡ length before
+  pub holding : Holding trace store listed
+
+-- where the lines or 17 stop, or else 19
+unfoldable pub compared : Asked → List ℕ → List Entry → Stop → Stop
+compared asked trace es (At fault site) = At fault site
+compared asked trace es End = statisticsOf asked trace es
 
 unfoldable pub fromLines : (trace latencies : List ℕ) → Asked → Choice → Reading → Reached → (store sends : List ℕ) → List ℤ → Type 0
 fromLines trace latencies asked choice r answer store sends times =

@@ -1,4 +1,4 @@
-// How far a call comes: the refusals from 1 to 15, and 17, or the times. The records stay in the store, the places of their sends and their
+// How far a call comes: the refusals from 1 to 15, and 17 and 19, or the times. The records stay in the store, the places of their sends and their
 // times in two slices, for whatever ending the call has; nothing is looked at or touched that a caller gets to see.
 mod lines;
 

@@ -1,11 +1,11 @@
-// "then line by line, the first bad line deciding", then 17, "then the first receive in file order that calls for 13 or 14 ..; then 15".
+// "then line by line, the first bad line deciding", then 17, then 19, "then the first receive in file order that calls for 13 or 14 ..; then 15".
 ghost use Prim.Native.Nat.{_≤_};
 ghost use mathlib.Core.Path.{_≡_};
 ghost use lib.ListN.{length};
 ghost use Rattle.paper.specs.Answer.{longest};
 ghost use Rattle.paper.specs.Reading.{readOf};
 ghost use Rattle.store.specs.Layout.{capacity, entriesIn};
-ghost use Rattle.reach.specs.Lines.{Sized, asReached, SettledBy, levelled, fromLines};
+ghost use Rattle.reach.specs.Lines.{Sized, asReached, SettledBy, levelled, Comparable, compared, fromLines};
 use crate::Reached;
 use answer::Counts;
 use paper::Asked;
@@ -71,6 +71,38 @@ fn check_levels(read: Stop, asked: Asked, store: &[u32], listed: usize) -> Stop
     }
 }
 
+// "after the line checks and 17, before 13", 19: behind both, where neither refuses. The slices are those of the times to come, which are room
+// here.
+fn check_statistics(
+    levelled: Stop,
+    asked: Asked,
+    trace: &[u8],
+    store: &[u32],
+    listed: usize,
+    before: &mut [u32],
+    latency: &mut [u32],
+    times: &mut [i64],
+    spare: &mut [i64],
+) -> Stop
+    requires { ⌜ Comparable (now trace) (now store) listed (now before) (now latency) (now times) (now spare) ⌝ }
+    ensures { λ r. ⌜ r ≡ compared asked (now (trace .entry)) (entriesIn (now (store .entry)) listed) levelled ⌝ }
+{
+    if asked.statistics != 1 {
+        return levelled;
+    }
+    match levelled {
+        Stop::At(fault, site) => Stop::At(fault, site),
+        Stop::End => statistics::compare(
+            trace,
+            store,
+            &mut latency[0..listed],
+            &mut before[0..listed],
+            &mut times[0..listed],
+            &mut spare[0..listed],
+        ),
+    }
+}
+
 // The lines into the store, and the times of the records there.
 pub(crate) fn read(
     choice: Choice,
@@ -90,7 +122,18 @@ pub(crate) fn read(
 {
     let read = trace::read_trace(choice, trace, store);
     let stop = read.stop;
-    match check_levels(stop, asked, store, read.listed) {
+    let levelled = check_levels(stop, asked, store, read.listed);
+    match check_statistics(
+        levelled,
+        asked,
+        trace,
+        store,
+        read.listed,
+        before,
+        latency,
+        times,
+        spare,
+    ) {
         Stop::At(fault, site) => Reached::Refused(fault, site),
         Stop::End => settle(
             latencies,

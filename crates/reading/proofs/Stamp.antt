@@ -6,8 +6,8 @@ use mathlib.Core.Bool.{Bool, true, false, cond}
 use mathlib.Core.Option.{Option, none, some}
 use lib.IntN.{ℤ}
 use Rattle.paper.specs.Forms.{wholeOf, timeOf}
-use Rattle.paper.specs.Events.{listedKind, standingOf}
-use Rattle.paper.specs.Line.{field, after, goesOn, rest, fieldsAbove, First, nothing, first, onField, onFirst, firstOf, Begun, bad, six, placeOf, sixOf, headOf, dataOf, placed, misplaced, partOf, lacking, withRole, withData, onPlace, listedLine, goodEnd, unknown, stepOver, unlisted, sorted, begun, lineOf}
+use Rattle.paper.specs.Events.{listedKind, standingFor}
+use Rattle.paper.specs.Line.{field, after, goesOn, rest, fieldsAbove, First, nothing, first, onField, onFirst, firstOf, Begun, bad, six, placeOf, sixOf, headOf, valuesIn, placed, misplaced, partOf, lacking, withRole, withData, onPlace, listedLine, goodEnd, unknown, stepOver, unlisted, sorted, begun, lineOf}
 use Rattle.paper.specs.Written.{withStamp}
 use Rattle.paper.specs.declared.Choice.{Choice}
 use Rattle.paper.specs.declared.Choice.the-variants as Choice
@@ -52,7 +52,7 @@ data-at t h p part (Values.Good values) = role-at t h p values _
 place-at : (t : ℤ) (h : Head) (fields : Option (List ℕ)) (o : Option ℕ) → onPlace (headAt t h) fields o ≡ lineAt t (onPlace h fields o)
 unfolding onPlace misplaced lineAt
 place-at t h fields none = refl
-place-at t h fields (some p) = data-at t h p (partOf (h .kind) (h .event)) (dataOf (h .count) fields)
+place-at t h fields (some p) = data-at t h p (partOf (h .kind) (h .event)) (valuesIn (h .kind) (h .count) fields)
 
 listed-at : (t : ℤ) (h : Head) (fields : Option (List ℕ)) → listedLine (headAt t h) fields ≡ lineAt t (listedLine h fields)
 unfolding listedLine
@@ -85,9 +85,9 @@ begun-at t choice (bad fault k) = refl
 begun-at t choice (six h fields) = go (listedKind (h .kind))
   where
     go : (b : Bool)
-        → cond b (sorted choice (headAt t h) fields (standingOf (h .event))) (unlisted choice (headAt t h) fields)
-        ≡ lineAt t (cond b (sorted choice h fields (standingOf (h .event))) (unlisted choice h fields))
-    go true = sorted-at t choice h fields (standingOf (h .event))
+        → cond b (sorted choice (headAt t h) fields (standingFor (h .kind) (h .event))) (unlisted choice (headAt t h) fields)
+        ≡ lineAt t (cond b (sorted choice h fields (standingFor (h .kind) (h .event))) (unlisted choice h fields))
+    go true = sorted-at t choice h fields (standingFor (h .kind) (h .event))
     go false = unlisted-at t choice h fields
 
 -- ---- the six fields

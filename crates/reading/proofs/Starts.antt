@@ -5,12 +5,15 @@ use mathlib.Core.List.{List, [], _∷_, _++_}
 use mathlib.Core.Bool.{Bool, true, false, cond}
 use native.Mathlib.Numerals.{add-one}
 use native.Mathlib.Omega.{arith}
-use lib.ListN.{length, drop}
+use lib.ListN.{length, take, drop}
 use lib.Seq.{drop-drop}
 use lib.Dec.{eqb}
 use borrow.Author.Tests.{eqb-true}
 use Rattle.forms.proofs.Tests.{never}
+use Rattle.bytes.specs.Bytes.{indexOf, indexAfter}
 use Rattle.paper.specs.Reading.{Lines, done, unended, ended, before, linesOf}
+use Rattle.paper.specs.Statistics.{lineIn}
+use Rattle.reading.specs.Places.{lineAt}
 use Rattle.reading.specs.Starts.{bytesBefore, startOf}
 
 -- ---- the first line of some bytes
@@ -88,6 +91,41 @@ module _ (s : List ℕ) (n : ℕ) (h : 1 ≤ n) {l : List ℕ} {x : Lines} (is :
 
   pub lines-next : linesOf (drop (startOf s (n + 1)) s) ≡ x
   lines-next = rw (← behind) (cut-first (drop (startOf s n) s) l x is .lines)
+
+-- ---- a line by its number is the line where it starts
+
+first-in : (b : ℕ) (y : Lines) → lineIn (before b y) 0 ≡ b ∷ lineIn y 0
+unfolding lineIn before
+first-in b done = refl
+first-in b (unended m) = refl
+first-in b (ended m y) = refl
+
+first-line : (s : List ℕ) → lineIn (linesOf s) 0 ≡ take (indexOf 10 s) s
+unfolding linesOf lineIn indexOf indexAfter
+first-line [] = refl
+first-line (b ∷ s) = go (eqb b 10) (first-line s)
+  where
+    go : (t : Bool) → lineIn (linesOf s) 0 ≡ take (indexOf 10 s) s
+        → lineIn (cond t (ended [] (linesOf s)) (before b (linesOf s))) 0 ≡ take (indexAfter t (indexOf 10 s)) (b ∷ s)
+    go true h = refl
+    go false h = first-in b (linesOf s) ∙ ap (λ (m : List ℕ). b ∷ m) h
+
+line-later : (k : ℕ) (s : List ℕ) → lineIn (linesOf s) k ≡ lineIn (linesOf (drop (bytesBefore k (linesOf s)) s)) 0
+unfolding bytesBefore lineIn
+line-later zero s = refl
+line-later (suc k) s = go (λ r. line-later k r) (linesOf s) refl
+  where
+    go : ((r : List ℕ) → lineIn (linesOf r) k ≡ lineIn (linesOf (drop (bytesBefore k (linesOf r)) r)) 0)
+        → (y : Lines) → linesOf s ≡ y → lineIn y (suc k) ≡ lineIn (linesOf (drop (bytesBefore (suc k) y) s)) 0
+    go later done is = rw is
+    go later (unended m) is = rw is
+    go later (ended m y) is =
+        let same = cut-first s m y is .lines in
+        rw (add-one, ← drop-drop (bytesBefore k y) (suc (length m)) s) (rw same at (later (drop (suc (length m)) s)))
+
+pub line-starts : (s : List ℕ) (n : ℕ) → lineIn (linesOf s) (n - 1) ≡ lineAt s (startOf s n)
+unfolding startOf lineAt
+line-starts s n = line-later (n - 1) s ∙ first-line (drop (bytesBefore (n - 1) (linesOf s)) s)
 
 -- ---- no line starts past the end
 

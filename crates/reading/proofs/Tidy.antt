@@ -11,8 +11,8 @@ use lib.Dec.{leb}
 use borrow.Author.Tests.{leb-true}
 use Rattle.paper.specs.Tests.{eqZ, upTo}
 use Rattle.paper.specs.Forms.{wholeOf, timeOf}
-use Rattle.paper.specs.Events.{listedKind, standingOf}
-use Rattle.paper.specs.Line.{field, rest, First, nothing, first, onField, onFirst, firstOf, Numbers, wrong, numbers, pushed, valuesOf, asWholes, asOthers, described, dataOf, placed, partOf, messageOf, roleOf, recordOf, withRole, withData, onPlace, listedLine, goodEnd, stepOver, unlisted, sorted, Begun, bad, six, begun, headOf, lineOf}
+use Rattle.paper.specs.Events.{listedKind, isStatistics, standingFor}
+use Rattle.paper.specs.Line.{field, rest, First, nothing, first, onField, onFirst, firstOf, Numbers, wrong, numbers, pushed, valuesOf, asWholes, asOthers, described, dataOf, Pairs, unpaired, pairs, pairsFor, asPairs, valuesIn, placed, partOf, messageOf, roleOf, recordOf, withRole, withData, onPlace, listedLine, goodEnd, stepOver, unlisted, sorted, Begun, bad, six, begun, headOf, lineOf}
 use Rattle.paper.specs.declared.Choice.{Choice}
 use Rattle.paper.specs.declared.Choice.the-variants as Choice
 use Rattle.paper.specs.declared.Head.{Head}
@@ -99,6 +99,17 @@ tidy-data (suc n) f = test TidyValues (leb (suc n) 16) _ (Values.Bad 5) (λ h. g
         test TidyValues (eqZ d (pos 2)) _ _ (λ h. tidy-wholes (valuesOf wholeOf 7 (suc n) g) (whole-values 7 (suc n) g))
         (test TidyValues (eqZ d (pos 5)) _ (Values.Bad 6) (λ h. tidy-others (valuesOf timeOf 7 (suc n) g)) tt)
 
+-- ---- the pairs of a statistics line
+
+tidy-pairs : (o : Pairs) → TidyValues (asPairs o)
+unfolding asPairs
+tidy-pairs (unpaired k) = tt
+tidy-pairs (pairs ps) = tt
+
+tidy-values : (kind : ℤ) (n : ℕ) (f : Option (List ℕ)) → TidyValues (valuesIn kind n f)
+unfolding valuesIn
+tidy-values kind n f = test TidyValues (isStatistics kind) _ _ (λ e. tidy-pairs (pairsFor kind n f)) (tidy-data n f)
+
 -- ---- the message
 
 up-to-below : (n : ℕ) (z : ℤ) → upTo n z ≡ true → natAbs z ≤ n
@@ -155,7 +166,7 @@ tidy-listed h head f = go (upTo 63 (h .processor) && eqZ (h .process) (pos 0)) r
     go true e =
         tidy-with h head (natAbs (h .processor))
         (omega (arith, up-to-below 63 (h .processor) (both (upTo 63 (h .processor)) (eqZ (h .process) (pos 0)) e .0)))
-        (partOf (h .kind) (h .event)) (dataOf (h .count) f) (tidy-data (h .count) f)
+        (partOf (h .kind) (h .event)) (valuesIn (h .kind) (h .count) f) (tidy-values (h .kind) (h .count) f)
     go false e = tt
 
 tidy-over : (choice : Choice) (h : Head) → TidyLine (stepOver choice h)
@@ -178,8 +189,8 @@ tidy-begun : (choice : Choice) (x : Begun) → TidyBegun x → TidyLine (begun c
 unfolding begun
 tidy-begun choice (bad fault k) head = tt
 tidy-begun choice (six h f) head =
-    test TidyLine (listedKind (h .kind)) (sorted choice h f (standingOf (h .event))) (unlisted choice h f)
-    (λ e. tidy-sorted choice h head f (standingOf (h .event))) (tidy-unlisted choice h f)
+    test TidyLine (listedKind (h .kind)) (sorted choice h f (standingFor (h .kind) (h .event))) (unlisted choice h f)
+    (λ e. tidy-sorted choice h head f (standingFor (h .kind) (h .event))) (tidy-unlisted choice h f)
 
 pub tidy-line : (choice : Choice) (l : List ℕ) → TidyLine (lineOf choice l)
 unfolding lineOf

@@ -42,7 +42,7 @@ own = "-5 5 0.000000 0 0 0\n" ∷ "-3 -21 0.000010 0 0 3 2 8 1 0\n" ∷ "-4 -52 
 -- ---- the calls
 
 abbrev asking : ℕ → List String → List ℕ → Query
-asking choice trace table = query (joined trace) table (record { choice = choice; levels = 0; picl = pos 0; user = pos 0; trace = pos 0 })
+asking choice trace table = query (joined trace) table (record { choice = choice; levels = 0; picl = pos 0; user = pos 0; trace = pos 0; statistics = 0 })
 
 -- a list of so many 7s, which none of these traces has for a place
 abbrev lent : ℕ → List ℕ

@@ -1,7 +1,7 @@
 -- Document 01, "Sample traces": those marked P, each a call from the trace's bytes with its whole outcome and the program's whole
 -- report of it; and in the same way what the first change request and its reading say of the tracing levels, the second of messages
--- that are posted and finish later, the fourth of receives that take fewer bytes than were sent, the fifth of columns, and the sixth of a
--- merged trace.
+-- that are posted and finish later, the fourth of receives that take fewer bytes than were sent, the fifth of columns, the sixth of a
+-- merged trace, and the eighth of statistics records.
 use Prim.Native.Nat.{ℕ, _+_, _*_}
 use Prim.Native.String.{String}
 use mathlib.Core.Path.{_≡_}
@@ -106,6 +106,41 @@ otherPairing =
     ∷ "-4 -52 0.000004 1 0 3 2 8 5 0\n"
     ∷ []
 
+-- an entry and a mark of event 5 on processor 0, an entry on another processor, an exit, and an entry behind this count of the first two
+abbrev counted : String → List String
+counted count =
+    "-3 5 0.000010 0 0 0\n"
+    ∷ "-3 5 0.000010 1 0 0\n"
+    ∷ "-2 5 0.000012 0 0 0\n"
+    ∷ "-4 5 0.000013 0 0 0\n"
+    ∷ count
+    ∷ "-3 5 0.000014 0 0 0\n"
+    ∷ []
+
+-- an entry and an exit of event 5 that are ten microseconds apart, an entry of event 6, and this behind them
+abbrev timed : String → List String
+timed times = "-3 5 0.000010 0 0 0\n" ∷ "-3 6 0.000011 0 0 0\n" ∷ "-4 5 0.000020 0 0 0\n" ∷ times ∷ []
+
+-- messages of 8 and of 16 bytes by -21 and by -27, of the first of which 7 are received, and the volumes of both processors: processor 0 has
+-- sent 8 bytes by -21, whatever was told of -27, and processor 1 none
+abbrev volumes : List String
+volumes =
+    "-3 -21 0.000010 0 0 3 2 8 1 1\n"
+    ∷ "-3 -27 0.000011 0 0 3 2 16 1 1\n"
+    ∷ "-103 -1 0.000011 0 0 2 \"%d%d\" -21 8 -27 5\n"
+    ∷ "-4 -52 0.000012 1 0 3 2 7 1 0\n"
+    ∷ "-4 -60 0.000013 1 0 3 2 16 1 0\n"
+    ∷ "-103 -1 0.000013 1 0 3 \"%d%d\" -52 7 -21 0 -60 5\n"
+    ∷ []
+
+-- the time of a receive that is posted at 8 and ends at this time
+abbrev received : String → String → List String
+received exit times = "-3 -21 0.000010 0 0 3 2 8 1 1\n" ∷ "-3 -52 0.000008 1 0 0\n" ∷ exit ∷ times ∷ []
+
+-- a receive without a send, and a count that differs: there is no entry of -52
+abbrev threeFaults : List String
+threeFaults = "-4 -52 0.000009 1 0 3 2 8 1 0\n" ∷ "-102 -1 0.000009 1 0 1 \"%d%d\" -52 1\n" ∷ []
+
 abbrev pub joined : List String → List ℕ
 joined [] = []
 joined (l ∷ ls) = bytesOf l ++ joined ls
@@ -123,12 +158,18 @@ calling trace latencies asked = record { trace = trace; latencies = latencies; a
 -- "0 for off, as for document 01's samples"
 abbrev given : List ℕ → List ℕ → ℕ → Inputs
 given trace latencies choice =
-    calling trace latencies (record { choice = choice; levels = 0; picl = pos 0; user = pos 0; trace = pos 0 })
+    calling trace latencies (record { choice = choice; levels = 0; picl = pos 0; user = pos 0; trace = pos 0; statistics = 0 })
 
 -- a call that expects 1 1 1, with this for its fourth number
 abbrev expecting : ℕ → List String → Inputs
 expecting levels trace =
-    calling (joined trace) (everywhere 0) (record { choice = 1; levels = levels; picl = pos 1; user = pos 1; trace = pos 1 })
+    calling (joined trace) (everywhere 0) (record { choice = 1; levels = levels; picl = pos 1; user = pos 1; trace = pos 1; statistics = 0 })
+
+-- a call with this for the number that switches the comparison of statistics
+abbrev comparing : ℕ → List String → Inputs
+comparing statistics trace =
+    calling (joined trace) (everywhere 0)
+    (record { choice = 1; levels = 0; picl = pos 0; user = pos 0; trace = pos 0; statistics = statistics })
 
 -- ---- the outcomes
 
@@ -393,6 +434,108 @@ samples =
       comes = answer 2 2 3 (pos 15 ∷ pos 10 ∷ pos 15 ∷ pos 12 ∷ pos 20 ∷ []);
       shows = report "verdict corrected\n" "listed 5\n" "matched 2\n" "rounds 3\n";
     }
+    -- request 8: "count is entries plus marks", of "that processor's earlier records"
+    ∷ record {
+      call = comparing 1 (counted "-102 -1 0.000013 0 0 1 \"%d%d\" 5 2\n");
+      comes = answer 3 0 0 (pos 10 ∷ pos 10 ∷ pos 12 ∷ pos 13 ∷ pos 13 ∷ pos 14 ∷ []);
+      shows = report "verdict nothing to judge\n" "listed 6\n" "matched 0\n" "rounds 0\n";
+    }
+    -- "A difference is refusal 19 at the first statistics line in the file that has one", and "0 for off"
+    ∷ record {
+      call = comparing 1 (counted "-102 -1 0.000013 0 0 1 \"%d%d\" 5 3\n");
+      comes = refusal 19 5 0;
+      shows = "refused 19 line 5 column 0\n" ∷ [];
+    }
+    ∷ record {
+      call = comparing 0 (counted "-102 -1 0.000013 0 0 1 \"%d%d\" 5 3\n");
+      comes = answer 3 0 0 (pos 10 ∷ pos 10 ∷ pos 12 ∷ pos 13 ∷ pos 13 ∷ pos 14 ∷ []);
+      shows = report "verdict nothing to judge\n" "listed 6\n" "matched 0\n" "rounds 0\n";
+    }
+    -- a line without pairs, and the first of two that differ
+    ∷ record {
+      call = comparing 1 ("-102 -1 0.000000 0 0 0\n" ∷ "-102 -1 0.000000 0 0 1 \"%d%d\" 5 1\n" ∷ "-102 -1 0.000000 0 0 1 \"%d%d\" 5 2\n" ∷ []);
+      comes = refusal 19 2 0;
+      shows = "refused 19 line 2 column 0\n" ∷ [];
+    }
+    -- "A pair whose event isn't listed, a count .. of -1 .. [isn't] compared"
+    ∷ record {
+      call = comparing 1 (counted "-102 -1 0.000013 0 0 4 \"%d%d\" 5 -1 -22 9 -905 9 -1 9\n");
+      comes = answer 3 0 0 (pos 10 ∷ pos 10 ∷ pos 12 ∷ pos 13 ∷ pos 13 ∷ pos 14 ∷ []);
+      shows = report "verdict nothing to judge\n" "listed 6\n" "matched 0\n" "rounds 0\n";
+    }
+    -- "Their event field may be any whole number", and "Those with event field -1 are compared": -22 is not handled in other records
+    ∷ record {
+      call = comparing 1 (counted "-102 -22 0.000013 0 0 1 \"%d%d\" 5 3\n");
+      comes = answer 3 0 0 (pos 10 ∷ pos 10 ∷ pos 12 ∷ pos 13 ∷ pos 13 ∷ pos 14 ∷ []);
+      shows = report "verdict nothing to judge\n" "listed 6\n" "matched 0\n" "rounds 0\n";
+    }
+    -- "within one microsecond for each entry, and only where they are equally many", "a time of -1.000000"
+    ∷ record {
+      call = comparing 1 (timed "-101 -1 0.000020 0 0 4 \"%d%lf\" 5 0.000009 5 0.000011 5 -1.000000 6 0.000500\n");
+      comes = answer 3 0 0 (pos 10 ∷ pos 11 ∷ pos 20 ∷ pos 20 ∷ []);
+      shows = report "verdict nothing to judge\n" "listed 4\n" "matched 0\n" "rounds 0\n";
+    }
+    ∷ record {
+      call = comparing 1 (timed "-101 -1 0.000020 0 0 2 \"%d%lf\" 5 0.000011 5 0.000012\n");
+      comes = refusal 19 4 0;
+      shows = "refused 19 line 4 column 0\n" ∷ [];
+    }
+    -- "volume of -21, -51 or -52 is the sum of its sends' or receives' lengths"
+    ∷ record {
+      call = comparing 1 volumes;
+      comes = answer 1 2 0 (pos 10 ∷ pos 11 ∷ pos 11 ∷ pos 12 ∷ pos 13 ∷ pos 13 ∷ []);
+      shows = report "verdict consistent\n" "listed 6\n" "matched 2\n" "rounds 0\n";
+    }
+    -- "at original times": under latencies of 5 the receive moves to 15. "moved times needn't agree" where that is read again
+    ∷ record {
+      call = calling (joined (received "-4 -52 0.000009 1 0 3 2 8 1 0\n" "-101 -1 0.000009 1 0 1 \"%d%lf\" -52 0.000001\n")) (everywhere 5)
+          (record { choice = 1; levels = 0; picl = pos 0; user = pos 0; trace = pos 0; statistics = 1 });
+      comes = answer 2 1 2 (pos 10 ∷ pos 8 ∷ pos 15 ∷ pos 15 ∷ []);
+      shows = report "verdict corrected\n" "listed 4\n" "matched 1\n" "rounds 2\n";
+    }
+    ∷ record {
+      call = comparing 1 (received "-4 -52 0.000015 1 0 3 2 8 1 0\n" "-101 -1 0.000015 1 0 1 \"%d%lf\" -52 0.000001\n");
+      comes = refusal 19 4 0;
+      shows = "refused 19 line 4 column 0\n" ∷ [];
+    }
+    -- "after the line checks and 17, before 13"
+    ∷ record {
+      call = calling (joined threeFaults) (everywhere 0)
+          (record { choice = 1; levels = 1; picl = pos 1; user = pos 1; trace = pos 1; statistics = 1 });
+      comes = refusal 17 2 0;
+      shows = "refused 17 line 2 column 0\n" ∷ [];
+    }
+    ∷ record {
+      call = comparing 1 threeFaults;
+      comes = refusal 19 2 0;
+      shows = "refused 19 line 2 column 0\n" ∷ [];
+    }
+    ∷ record {
+      call = comparing 0 threeFaults;
+      comes = refusal 13 1 0;
+      shows = "refused 13 line 1 column 0\n" ∷ [];
+    }
+    -- "become listed and join their processor's order"
+    ∷ record {
+      call = comparing 1 (entry0 ∷ "-102 -1 -0.000001 0 0 0\n" ∷ []);
+      comes = refusal 11 2 0;
+      shows = "refused 11 line 2 column 0\n" ∷ [];
+    }
+    -- "0 for off or 1 for on, otherwise refusal 1"
+    ∷ record { call = comparing 2 []; comes = refusal 1 0 0; shows = "refused 1 line 0 column 0\n" ∷ [] }
+    -- "The descriptor is the quoted text "%d%lf" for times, or "%d%d" for the other two"; that of other records is none, and these are none of
+    -- theirs
+    ∷ badLine "-102 -1 0.000000 0 0 1 \"%d%lf\" 5 1\n" 5 24 "refused 5 line 1 column 24\n"
+    ∷ badLine "-101 -1 0.000000 0 0 1 \"%d%d\" 5 1\n" 5 24 "refused 5 line 1 column 24\n"
+    ∷ badLine "-103 -1 0.000000 0 0 2 2 5 1\n" 5 24 "refused 5 line 1 column 24\n"
+    ∷ badLine "-3 0 0.000000 0 0 1 \"%d%d\" 1\n" 5 21 "refused 5 line 1 column 21\n"
+    -- "the data count counts pairs, at most 16", and with none there is no descriptor
+    ∷ badLine "-102 -1 0.000000 0 0 17 \"%d%d\"\n" 5 22 "refused 5 line 1 column 22\n"
+    ∷ badLine "-102 -1 0.000000 0 0 0 \"%d%d\"\n" 5 24 "refused 5 line 1 column 24\n"
+    -- a pair that is not whole, one too many, and a time that is none
+    ∷ badLine "-102 -1 0.000000 0 0 1 \"%d%d\" 5\n" 5 32 "refused 5 line 1 column 32\n"
+    ∷ badLine "-102 -1 0.000000 0 0 1 \"%d%d\" 5 1 6\n" 5 35 "refused 5 line 1 column 35\n"
+    ∷ badLine "-101 -1 0.000000 0 0 1 \"%d%lf\" 5 -1\n" 5 34 "refused 5 line 1 column 34\n"
     ∷ []
 
 -- each comes to what it should, and is reported so

@@ -13,7 +13,7 @@ use Rattle.report.specs.declared.Said.{Said}
 use Rattle.report.specs.declared.Said.the-variants.{Answered, CannotRead, TooMany}
 use Rattle.arguments.specs.declared.Plan.{Plan}
 use Rattle.arguments.specs.declared.Plan.the-variants as Plan
-use Rattle.arguments.specs.Arguments.{planOf, levelsOff}
+use Rattle.arguments.specs.Arguments.{planOf, choiceAlone}
 use Rattle.files.specs.Told.{ByFiles}
 use Rattle.filed.specs.Filed.{onFiles}
 use Rattle.shell.specs.Program.{onPlan, saidOf}
@@ -31,7 +31,7 @@ module _ (count : ℕ) (first : List ℕ) {plan : Plan} (planned : plan ≡ plan
   unfolding saidOf onPlan
   says-unnamed e = record { first = none; second = none; rest = record { stored = true; says = rw (sym planned ∙ e) } }
 
-  pub judges : {choice : ℕ} {wanted : Bool} {asked : Asked} {said : Said} → plan ≡ Plan.Judge choice wanted → asked ≡ levelsOff choice
+  pub judges : {choice : ℕ} {wanted : Bool} {asked : Asked} {said : Said} → plan ≡ Plan.Judge choice wanted → asked ≡ choiceAlone choice
       → ByFiles (onFiles asked wanted) said → ByFiles (saidOf count first) said
   unfolding saidOf onPlan
   judges e off by = record { first = by .first; second = by .second; rest = record { stored = by .rest .stored; says = by .rest .says ∙ rw (sym planned ∙ e, off) } }

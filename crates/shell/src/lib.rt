@@ -42,7 +42,7 @@ fn performed(count: usize, choice: &[u8], trace: &[u8], table: &[u8], out: &[u8]
         Plan::TooMany => Said::TooMany,
         Plan::Unnamed => Said::CannotRead,
         Plan::Judge(choice, wanted) => {
-            filed::judge_files(arguments::levels_off(choice), wanted, trace, table, out)
+            filed::judge_files(arguments::choice_alone(choice), wanted, trace, table, out)
         }
     }
 }

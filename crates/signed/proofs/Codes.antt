@@ -2,6 +2,7 @@
 use Prim.Native.Nat.{ℕ, _+_, _*_, _/_, _%_, _≤_, _<_, _^_}
 use mathlib.Core.Path.{_≡_}
 use native.Mathlib.Omega.{arith}
+use native.Mathlib.Decide.{ℕ-discrete}
 use borrow.Author.Tests.{eq-eqb, ne-eqb}
 use lib.IntN.{ℤ, pos, negsuc, natAbs}
 use Rattle.signed.specs.Codes.{codeOf, decoded}
@@ -26,6 +27,15 @@ code-back (pos n) =
 code-back (negsuc n) =
     let half : (2 * n + 1) / 2 ≡ n = omega arith in
     rw (← odd (2 * n + 1) (λ e. omega arith), half)
+
+-- and a code from its number
+pub code-forth : (n : ℕ) → codeOf (decoded n) ≡ n
+unfolding codeOf
+code-forth n = go (ℕ-discrete (n % 2) 0)
+  where
+    go : Dec (n % 2 ≡ 0) → codeOf (decoded n) ≡ n
+    go (yes e) = rw (← even n e) (omega arith)
+    go (no e) = rw (← odd n e) (omega arith)
 
 pub half-code : (n : ℕ) → codeOf (pos n) / 2 ≡ n
 unfolding codeOf

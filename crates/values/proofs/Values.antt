@@ -14,9 +14,10 @@ use Rattle.paper.specs.Line.{nothing, first, firstOf, Numbers, wrong, numbers, 
 use Rattle.paper.specs.declared.Field.{Field}
 use Rattle.paper.specs.declared.Data.the-variants.{Three, Others}
 use Rattle.paper.specs.declared.Values.the-variants.{Good, Bad}
-use Rattle.reading.proofs.Data.{values-many, WholesTold, wholes-told, data-few, data-many}
+use Rattle.reading.proofs.Data.{values-many, WholesTold, wholes-told, data-few}
 use Rattle.field.specs.Cursor.{restAt}
 use Rattle.field.proofs.Cursors.{past, inside}
+use Rattle.values.specs.Few.{Few}
 
 -- ---- the loop over the data
 
@@ -96,26 +97,11 @@ module _ (n : ℕ) (f : Option (List ℕ)) {u d : ℤ} (same : u ≡ d) where
   unfolding described
   under-none e h = rw (rw same at e, rw same at h)
 
--- ---- all of them
+-- ---- behind the number of data
 
-module _ (l : List ℕ) (at : ℕ) where
-  pub no-data : (n : ℕ) → n ≡ 0 → length l < at → Good Others ≡ dataOf n (restAt l at)
-  unfolding dataOf valuesOf asOthers
-  no-data zero e h = rw (past l at h)
-  no-data (suc n) e h = absurd (omega arith)
+module _ (f : Option (List ℕ)) (n : ℕ) (few : Few n) where
+  pub no-descriptor : firstOf wholeOf f ≡ nothing → Bad 6 ≡ dataOf n f
+  no-descriptor e = rw (data-few n (few .some) (few .most) f, e)
 
-  pub some-data : (n : ℕ) → n ≡ 0 → at ≤ length l → Bad 6 ≡ dataOf n (restAt l at)
-  unfolding dataOf valuesOf asOthers
-  some-data zero e h = rw (inside l at h)
-  some-data (suc n) e h = absurd (omega arith)
-
-module _ (f : Option (List ℕ)) where
-  pub too-many : (n : ℕ) → 16 < n → Bad 5 ≡ dataOf n f
-  too-many n h = sym (data-many n f h)
-
-  module _ (n : ℕ) (z : n ≡ 0 → ⊥) (few : n ≤ 16) where
-    pub no-descriptor : firstOf wholeOf f ≡ nothing → Bad 6 ≡ dataOf n f
-    no-descriptor e = rw (data-few n (omega arith) few f, e)
-
-    pub with-descriptor : (d : ℤ) (g : Option (List ℕ)) → firstOf wholeOf f ≡ first d g → {u : ℤ} → u ≡ d → described n u g ≡ dataOf n f
-    with-descriptor d g e p = rw (data-few n (omega arith) few f, e, p)
+  pub with-descriptor : (d : ℤ) (g : Option (List ℕ)) → firstOf wholeOf f ≡ first d g → {u : ℤ} → u ≡ d → described n u g ≡ dataOf n f
+  with-descriptor d g e p = rw (data-few n (few .some) (few .most) f, e, p)

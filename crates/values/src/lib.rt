@@ -1,11 +1,16 @@
 // The data of a listed record, from the cursor to the end of its line: what they are, or the field that is bad, missing or too many. Field 5
 // is the number of data, 6 the descriptor and 7 the first datum.
+mod pairs;
+
 ghost use mathlib.Core.Path.{_≡_};
 ghost use Prim.Native.Nat.{_≤_};
-ghost use Rattle.paper.specs.Line.{valuesOf, asWholes, asOthers, dataOf, described};
+ghost use Rattle.paper.specs.Line.{valuesOf, asWholes, asOthers, dataOf, described, valuesIn};
 ghost use Rattle.field.specs.Cursor.{restAt, readAs};
+ghost use Rattle.values.specs.Few.{Few};
 use field::Form;
 use field::Got;
+pub use pairs::quoted_form;
+pub use pairs::told_form;
 use paper::Data;
 use paper::Values;
 
@@ -72,9 +77,21 @@ fn described_by(l: &[u8], at: usize, n: usize, descriptor: i64) -> Values
     Values::Bad(6)
 }
 
-// "only if that number is above zero, a descriptor and the data", "in a listed record at most 16"
-pub fn read(l: &[u8], at: usize, n: usize) -> Values
+// "a descriptor and the data"
+fn data(l: &[u8], at: usize, n: usize) -> Values
+    requires { ⌜ Few n ⌝ }
     ensures { λ r. ⌜ r ≡ dataOf n (restAt (now (l .entry)) at) ⌝ }
+{
+    let Got::Value(descriptor, next) = field::value_at(l, at, Form::Whole) else {
+        return Values::Bad(6);
+    };
+    described_by(l, next, n, descriptor)
+}
+
+// "only if that number is above zero, a descriptor and the data", "in a listed record at most 16"; of a statistics record "the data count
+// counts pairs, at most 16"
+pub fn read(l: &[u8], at: usize, kind: i64, n: usize) -> Values
+    ensures { λ r. ⌜ r ≡ valuesIn kind n (restAt (now (l .entry)) at) ⌝ }
 {
     if n == 0 {
         if l.len() < at {
@@ -85,8 +102,8 @@ pub fn read(l: &[u8], at: usize, n: usize) -> Values
     if 16 < n {
         return Values::Bad(5);
     }
-    let Got::Value(descriptor, next) = field::value_at(l, at, Form::Whole) else {
-        return Values::Bad(6);
-    };
-    described_by(l, next, n, descriptor)
+    if parts::is_statistics(kind) {
+        return pairs::read(l, at, kind, n);
+    }
+    data(l, at, n)
 }

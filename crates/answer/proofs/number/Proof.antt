@@ -62,6 +62,9 @@ enum-told-18 c = search needs
 enum-told-19 : tie.Need-enum-told-19
 enum-told-19 c = search needs
 
+enum-told-20 : tie.Need-enum-told-20
+enum-told-20 c = search needs
+
 returns : tie.Need-returns
 unfolding numberOf
 returns c = ap numberOf (sym (c .enum-told .given .1))
@@ -138,6 +141,10 @@ returns-19 : tie.Need-returns-19
 unfolding numberOf
 returns-19 c = ap numberOf (sym (c .enum-told19 .given .1))
 
+returns-20 : tie.Need-returns-20
+unfolding numberOf
+returns-20 c = ap numberOf (sym (c .enum-told20 .given .1))
+
 pub number-spec : {M : Type 1} → statement M
 number-spec =
     tie.close
@@ -161,6 +168,7 @@ number-spec =
     enum-told-17
     enum-told-18
     enum-told-19
+    enum-told-20
     returns
     returns-2
     returns-3
@@ -179,4 +187,5 @@ number-spec =
     returns-16
     returns-17
     returns-18
-    returns-19)
+    returns-19
+    returns-20)

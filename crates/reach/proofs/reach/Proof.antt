@@ -1,8 +1,9 @@
--- `reach::reach` meets its contract. Here the code's number is the paper's limit of records, which a place of 32 bits holds.
+-- `reach::reach` meets its contract. Here the code's number is the paper's limit of records, which is one that times are summed of.
 use native.Mathlib.Omega.{arith}
 use borrow.Author.Needs.{needs}
 use borrow.Author.Tests.{not-true, not-false}
 use Rattle.paper.specs.Answer.{most}
+use Rattle.paper.specs.Statistics.{summed}
 use Rattle.clearance.specs.Clearance.{givenOf}
 use Rattle.clearance.proofs.Clearing.{cleared-refused, cleared-reads}
 use Rattle.reach.specs.Reach.{reaches}
@@ -38,7 +39,7 @@ enum-known-choice : tie.Need-enum-known-choice
 enum-known-choice c = search needs
 
 read-requires : tie.Need-read-requires
-unfolding most
+unfolding most summed
 read-requires c κs =
     let check = c .before .before .before .before .before .before .before .before .before in
     let fit = check .before in

@@ -22,8 +22,8 @@ enum-told-3 c = search needs
 enum-known-choice : tie.Need-enum-known-choice
 enum-known-choice c = search needs
 
-levels-off-requires : tie.Need-levels-off-requires
-levels-off-requires c κs = search needs
+choice-alone-requires : tie.Need-choice-alone-requires
+choice-alone-requires c κs = search needs
 
 judge-files-requires : tie.Need-judge-files-requires
 judge-files-requires c κs = search needs
@@ -40,7 +40,7 @@ returns-3 c = says-unnamed _ _ (c .before .before .planned .ensures) (c .enum-to
 returns-4 : tie.Need-returns-4
 returns-4 c =
     let c₃ = c .before .before .before in
-    judges _ _ (c₃ .before .before .planned .ensures) (c₃ .choice .given .1) (c .before .levels-off .ensures) (c .judge-files .ensures)
+    judges _ _ (c₃ .before .before .planned .ensures) (c₃ .choice .given .1) (c .before .choice-alone .ensures) (c .judge-files .ensures)
 
 pub performed-spec : {M : Type 1} → statement M
 performed-spec =
@@ -52,7 +52,7 @@ performed-spec =
     enum-told-2
     enum-told-3
     enum-known-choice
-    levels-off-requires
+    choice-alone-requires
     judge-files-requires
     returns
     returns-2

@@ -1,6 +1,6 @@
 -- `flags::asking::conclude` meets its contract: a law of `concluded` for each way out.
 use borrow.Author.Needs.{needs}
-use Rattle.flags.proofs.Ends.{no-choice, no-trace, no-table, no-levels, all-given}
+use Rattle.flags.proofs.Ends.{no-choice, no-trace, no-table, no-levels, no-statistics, all-given}
 use Rattle.flags.proofs.asking.conclude.Statement.{statement}
 use Rattle.flags.proofs.asking.conclude.Tie as tie
 
@@ -25,17 +25,26 @@ returns-4 c =
     let c₆ = c₄ .before .before in
     no-levels _ _ (c₆ .if1 .left) (c₄ .if2 .left) (c₂ .if3 .left) (c .if4 .taken)
 
+returns-5 : tie.Need-returns-5
+returns-5 c =
+    let c₂ = c .before .before in
+    let c₄ = c₂ .before .before in
+    let c₆ = c₄ .before .before in
+    let c₈ = c₆ .before .before in
+    no-statistics _ _ (c₈ .if1 .left) (c₆ .if2 .left) (c₄ .if3 .left) (c₂ .if4 .left) (c .if5 .taken)
+
 wishes-of-requires : tie.Need-wishes-of-requires
 wishes-of-requires c κs = search needs
 
-returns-5 : tie.Need-returns-5
-returns-5 c =
+returns-6 : tie.Need-returns-6
+returns-6 c =
     let c₁ = c .before in
     let c₃ = c₁ .before .before in
     let c₅ = c₃ .before .before in
     let c₇ = c₅ .before .before in
-    all-given _ _ (c₇ .if1 .left) (c₅ .if2 .left) (c₃ .if3 .left) (c₁ .if4 .left) (c₇ .before .before .before .pre) (c .wishes-of .ensures)
+    let c₉ = c₇ .before .before in
+    all-given _ _ (c₉ .if1 .left) (c₇ .if2 .left) (c₅ .if3 .left) (c₃ .if4 .left) (c₁ .if5 .left) (c₉ .before .before .before .pre) (c .wishes-of .ensures)
 
 pub conclude-spec : {M : Type 1} → statement M
 conclude-spec =
-    tie.close (tie.spec returns returns-2 returns-3 returns-4 wishes-of-requires returns-5)
+    tie.close (tie.spec returns returns-2 returns-3 returns-4 returns-5 wishes-of-requires returns-6)

@@ -20,6 +20,9 @@ enum-told-4 c = search needs
 enum-told-5 : tie.Need-enum-told-5
 enum-told-5 c = search needs
 
+enum-told-6 : tie.Need-enum-told-6
+enum-told-6 c = search needs
+
 returns : tie.Need-returns
 unfolding spanOf filled
 returns c = rw (c .before .enum-told .given .1) refl
@@ -40,6 +43,10 @@ returns-5 : tie.Need-returns-5
 unfolding spanOf filled
 returns-5 c = rw (c .before .enum-told5 .given .1) refl
 
+returns-6 : tie.Need-returns-6
+unfolding spanOf filled
+returns-6 c = rw (c .before .enum-told6 .given .1) refl
+
 pub is-given-spec : {M : Type 1} → statement M
 is-given-spec =
     tie.close
@@ -49,8 +56,10 @@ is-given-spec =
     enum-told-3
     enum-told-4
     enum-told-5
+    enum-told-6
     returns
     returns-2
     returns-3
     returns-4
-    returns-5)
+    returns-5
+    returns-6)

@@ -25,8 +25,8 @@ say-requires c κs = search needs
 enum-told : tie.Need-enum-told
 enum-told c = search needs
 
-levels-off-requires : tie.Need-levels-off-requires
-levels-off-requires c κs = search needs
+choice-alone-requires : tie.Need-choice-alone-requires
+choice-alone-requires c κs = search needs
 
 slice-aggregate-show : tie.Need-slice-aggregate-show
 slice-aggregate-show c = search needs
@@ -46,7 +46,7 @@ returns-2 c =
     let ready = c .before .before .before .before .before .before in
     let decode = ready .before .before in
     judged _ _ _ _ _ _ _ (decode .before .before .no-latencies .ensures) (decode .decode .ensures) (ready .ready .ensures)
-    (c .before .before .before .before .enum-told .given .1) (c .before .before .before .levels-off .ensures)
+    (c .before .before .before .before .enum-told .given .1) (c .before .before .before .choice-alone .ensures)
     (c .show .ensures)
 
 pub of-bytes-spec : {M : Type 1} → statement M
@@ -60,7 +60,7 @@ of-bytes-spec =
     enum-known-said
     say-requires
     enum-told
-    levels-off-requires
+    choice-alone-requires
     slice-aggregate-show
     show-requires
     returns

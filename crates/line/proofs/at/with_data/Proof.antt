@@ -25,7 +25,7 @@ returns-2 : tie.Need-returns-2
 returns-2 c =
     let c₂ = c .before .before in
     let c₄ = c₂ .before .before in
-    listed-rest _ _ _ _ _ (c₄ .read-data .ensures) _ _ (c₂ .values .given .1) _ (c .with-values .ensures)
+    listed-rest _ _ _ _ _ (c₄ .read-data .ensures) (search needs) _ _ (c₂ .values .given .1) _ (c .with-values .ensures)
 
 pub with-data-spec : {M : Type 1} → statement M
 with-data-spec =

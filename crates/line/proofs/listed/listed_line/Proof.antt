@@ -1,6 +1,6 @@
 -- `line::listed::listed_line` meets its contract.
 use borrow.Author.Needs.{needs}
-use mathlib.Core.Path.{sym, _∙_}
+use Rattle.line.proofs.Parts.{read-of}
 use Rattle.line.proofs.listed.listed_line.Statement.{statement}
 use Rattle.line.proofs.listed.listed_line.Tie as tie
 
@@ -20,10 +20,10 @@ without-values-requires : tie.Need-without-values-requires
 without-values-requires c κs = search needs
 
 returns : tie.Need-returns
-returns c = c .with-values .ensures _ (sym (c .before .before .values .given .1) ∙ c .before .before .before .before .read .ensures)
+returns c = c .with-values .ensures _ (read-of _ _ (c .before .before .before .before .read .ensures) (search needs) (c .before .before .values .given .1))
 
 returns-2 : tie.Need-returns-2
-returns-2 c = c .without-values .ensures _ (sym (c .before .before .k .given .1) ∙ c .before .before .before .before .read .ensures)
+returns-2 c = c .without-values .ensures _ (read-of _ _ (c .before .before .before .before .read .ensures) (search needs) (c .before .before .k .given .1))
 
 pub listed-line-spec : {M : Type 1} → statement M
 listed-line-spec =

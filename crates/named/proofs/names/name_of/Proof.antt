@@ -3,7 +3,7 @@ use borrow.Author.Needs.{needs}
 use Rattle.paper.specs.Text.{bytesOf}
 use Rattle.named.specs.Values.{written}
 use Rattle.named.specs.Parts.{foundIn}
-use Rattle.named.proofs.Forms.{is-choice, is-trace, is-table, is-levels, is-out, is-nobody's}
+use Rattle.named.proofs.Forms.{is-choice, is-trace, is-table, is-levels, is-statistics, is-out, is-nobody's}
 use Rattle.named.proofs.names.name_of.Statement.{statement}
 use Rattle.named.proofs.names.name_of.Tie as tie
 
@@ -69,7 +69,13 @@ returns-5 c =
     let c₆ = c₃ .before .before .before in
     let c₉ = c₆ .before .before .before in
     let c₁₂ = c₉ .before .before .before in
-    is-out _ (c₁₂ .before .is-same .ensures) (c₁₂ .if1 .left) (c₉ .before .is-same2 .ensures) (c₉ .if2 .left) (c₆ .before .is-same3 .ensures) (c₆ .if3 .left) (c₃ .before .is-same4 .ensures) (c₃ .if4 .left) (c .before .is-same5 .ensures) (c .if5 .taken)
+    is-statistics _ (c₁₂ .before .is-same .ensures) (c₁₂ .if1 .left) (c₉ .before .is-same2 .ensures) (c₉ .if2 .left) (c₆ .before .is-same3 .ensures) (c₆ .if3 .left) (c₃ .before .is-same4 .ensures) (c₃ .if4 .left) (c .before .is-same5 .ensures) (c .if5 .taken)
+
+slice-aggregate-is-same-6 : tie.Need-slice-aggregate-is-same-6
+slice-aggregate-is-same-6 c = search needs
+
+is-same-requires-6 : tie.Need-is-same-requires-6
+is-same-requires-6 c κs = search needs
 
 returns-6 : tie.Need-returns-6
 unfolding foundIn written bytesOf
@@ -78,7 +84,18 @@ returns-6 c =
     let c₆ = c₃ .before .before .before in
     let c₉ = c₆ .before .before .before in
     let c₁₂ = c₉ .before .before .before in
-    is-nobody's _ (c₁₂ .before .is-same .ensures) (c₁₂ .if1 .left) (c₉ .before .is-same2 .ensures) (c₉ .if2 .left) (c₆ .before .is-same3 .ensures) (c₆ .if3 .left) (c₃ .before .is-same4 .ensures) (c₃ .if4 .left) (c .before .is-same5 .ensures) (c .if5 .left)
+    let c₁₅ = c₁₂ .before .before .before in
+    is-out _ (c₁₅ .before .is-same .ensures) (c₁₅ .if1 .left) (c₁₂ .before .is-same2 .ensures) (c₁₂ .if2 .left) (c₉ .before .is-same3 .ensures) (c₉ .if3 .left) (c₆ .before .is-same4 .ensures) (c₆ .if4 .left) (c₃ .before .is-same5 .ensures) (c₃ .if5 .left) (c .before .is-same6 .ensures) (c .if6 .taken)
+
+returns-7 : tie.Need-returns-7
+unfolding foundIn written bytesOf
+returns-7 c =
+    let c₃ = c .before .before .before in
+    let c₆ = c₃ .before .before .before in
+    let c₉ = c₆ .before .before .before in
+    let c₁₂ = c₉ .before .before .before in
+    let c₁₅ = c₁₂ .before .before .before in
+    is-nobody's _ (c₁₅ .before .is-same .ensures) (c₁₅ .if1 .left) (c₁₂ .before .is-same2 .ensures) (c₁₂ .if2 .left) (c₉ .before .is-same3 .ensures) (c₉ .if3 .left) (c₆ .before .is-same4 .ensures) (c₆ .if4 .left) (c₃ .before .is-same5 .ensures) (c₃ .if5 .left) (c .before .is-same6 .ensures) (c .if6 .left)
 
 pub name-of-spec : {M : Type 1} → statement M
 name-of-spec =
@@ -99,4 +116,7 @@ name-of-spec =
     slice-aggregate-is-same-5
     is-same-requires-5
     returns-5
-    returns-6)
+    slice-aggregate-is-same-6
+    is-same-requires-6
+    returns-6
+    returns-7)

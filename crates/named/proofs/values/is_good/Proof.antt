@@ -29,6 +29,12 @@ are-good-requires c κs = search needs
 enum-told-5 : tie.Need-enum-told-5
 enum-told-5 c = search needs
 
+switch-of-requires : tie.Need-switch-of-requires
+switch-of-requires c κs = search needs
+
+enum-told-6 : tie.Need-enum-told-6
+enum-told-6 c = search needs
+
 returns : tie.Need-returns
 unfolding goodFor
 returns c = rw (c .before .enum-told .given .1, ← c .choice-of .ensures)
@@ -47,7 +53,11 @@ returns-4 c = rw (c .before .before .enum-told4 .given .1) (c .are-good .ensures
 
 returns-5 : tie.Need-returns-5
 unfolding goodFor
-returns-5 c = rw (c .enum-told5 .given .1)
+returns-5 c = rw (c .before .enum-told5 .given .1, ← c .switch-of .ensures)
+
+returns-6 : tie.Need-returns-6
+unfolding goodFor
+returns-6 c = rw (c .enum-told6 .given .1)
 
 pub is-good-spec : {M : Type 1} → statement M
 is-good-spec =
@@ -61,8 +71,11 @@ is-good-spec =
     levels-of-requires
     are-good-requires
     enum-told-5
+    switch-of-requires
+    enum-told-6
     returns
     returns-2
     returns-3
     returns-4
-    returns-5)
+    returns-5
+    returns-6)

@@ -2,15 +2,31 @@
 use native.Mathlib.Omega.{arith}
 use borrow.Author.Needs.{needs}
 use Rattle.paper.specs.Answer.{longest}
-use Rattle.reach.proofs.Records.{ready, line-refused, lines-read}
+use Rattle.reach.proofs.Records.{ready, comparable, line-refused, lines-read}
 use Rattle.reach.proofs.lines.read.Statement.{statement}
 use Rattle.reach.proofs.lines.read.Tie as tie
+
+-- what came before the statistics' check
+abbrev levels-of : tie.After-check-statistics → tie.After-check-levels
+levels-of c = c .before .before .before .before .before .before
+
+abbrev read-of : tie.After-check-levels → tie.After-read-trace
+read-of c = c .before .before .before .before
+
+abbrev start-of : tie.After-read-trace → tie.Start
+start-of c = c .before .before .before .before .before .before .before .before
 
 read-trace-requires : tie.Need-read-trace-requires
 read-trace-requires c κs = search needs
 
 check-levels-requires : tie.Need-check-levels-requires
 check-levels-requires c κs = search needs
+
+check-statistics-requires : tie.Need-check-statistics-requires
+unfolding longest
+check-statistics-requires c κs =
+    let read = read-of (c .before .before .before .before .before) in
+    comparable _ _ _ _ _ (read .read-trace .ensures) (omega (arith, start-of read .pre .0)) (start-of read .pre .1)
 
 enum-known-fault : tie.Need-enum-known-fault
 enum-known-fault c = search needs
@@ -20,46 +36,61 @@ enum-told c = search needs
 
 settle-requires : tie.Need-settle-requires
 settle-requires c κs =
-    let c₁₂ = c .before .before .before .before .before .before .before .before .before .before .before .before in
-    ready _ _ _ _ _ (c₁₂ .read-trace .ensures) (c₁₂ .before .before .before .before .before .before .before .before .pre .1)
+    let c₈ = c .before .before .before .before .before .before .before .before in
+    let read = read-of (levels-of (c₈ .before .before .before .before .before .before)) in
+    ready _ _ _ _ _ (read .read-trace .ensures) (start-of read .pre .1)
+    (c₈ .before .before .before .before .before .before2 .given) (c₈ .before .before .before .latency .given) (c₈ .before .times .given) (c₈ .spare .given)
 
 same-length : tie.Need-same-length
-same-length c = search needs
+same-length c = c .before .before .before .before .before .before .before .before .before .before .before .before .before .before .before .before .before .before .store .given
+
+same-length-2 : tie.Need-same-length-2
+same-length-2 c = c .before .before .before .before .before .before .before .before .before2 .given
+
+same-length-3 : tie.Need-same-length-3
+same-length-3 c = c .before .before .before .before .before .before .latency .given
+
+same-length-4 : tie.Need-same-length-4
+same-length-4 c = c .before .before .before .before .times .given
+
+same-length-5 : tie.Need-same-length-5
+same-length-5 c = c .before .before .before .spare .given
 
 returns : tie.Need-returns
 unfolding longest
 returns c =
-    let c₃ = c .before .before .before in
-    let c₇ = c₃ .before .before .before .before in
-    let short = c₇ .before .before .before .before .before .before .before .before .pre .0 in
-    line-refused _ _ _ _ _ (c₇ .read-trace .ensures) (omega (arith, short)) _ _ (c₃ .check-levels .ensures) _ _ (c .before .fault .given .1) _ _
-
-same-length-2 : tie.Need-same-length-2
-same-length-2 c = c .before .before .before .before .before .before .before .before .before .before .before .before .before .before .before .before .before .before .before .before .store .given
-
-same-length-3 : tie.Need-same-length-3
-same-length-3 c = c .before .before .before .before .before .before .before .sends .given
-
-same-length-4 : tie.Need-same-length-4
-same-length-4 c = c .before .before .before .before .before .before2 .given
-
-same-length-5 : tie.Need-same-length-5
-same-length-5 c = c .before .before .before .latency .given
+    let statistics = c .before .before .before .before .before .before .before .before .before in
+    let levels = levels-of statistics in
+    let read = read-of levels in
+    line-refused _ _ _ _ _ (read .read-trace .ensures) (omega (arith, start-of read .pre .0)) _ _ (levels .check-levels .ensures) (statistics .check-statistics .ensures) _ _ (c .before .fault .given .1) _ _
 
 same-length-6 : tie.Need-same-length-6
-same-length-6 c = c .before .times .given
+same-length-6 c = c .before .before .before .before .before .before .before .before .before .before .before .before .before .before .before .before .before .before .before .before .before .before .before .before .before .before .before .before .before .before .before .before .store .given
 
 same-length-7 : tie.Need-same-length-7
-same-length-7 c = c .spare .given
+same-length-7 c = c .before .before .before .before .before .before .before .sends .given
+
+same-length-8 : tie.Need-same-length-8
+same-length-8 c = omega (arith, c .before .before .before .before .before .before3 .given, c .before .before .before .before .before .before .before .before .before .before .before .before .before .before .before .before .before .before .before .before .before .before .before2 .given)
+
+same-length-9 : tie.Need-same-length-9
+same-length-9 c = omega (arith, c .before .before .before .latency2 .given, c .before .before .before .before .before .before .before .before .before .before .before .before .before .before .before .before .before .before .before .before .latency .given)
+
+same-length-10 : tie.Need-same-length-10
+same-length-10 c = omega (arith, c .before .times2 .given, c .before .before .before .before .before .before .before .before .before .before .before .before .before .before .before .before .before .before .times .given)
+
+same-length-11 : tie.Need-same-length-11
+same-length-11 c = omega (arith, c .spare2 .given, c .before .before .before .before .before .before .before .before .before .before .before .before .before .before .before .before .before .spare .given)
 
 returns-2 : tie.Need-returns-2
 unfolding longest
 returns-2 c =
-    let c₁₅ = c .before .before .before .before .before .before .before .before .before .before .before .before .before .before .before in
-    let c₁₇ = c₁₅ .before .before in
-    let c₂₁ = c₁₇ .before .before .before .before in
-    let short = c₂₁ .before .before .before .before .before .before .before .before .pre .0 in
-    lines-read _ _ _ _ _ (c₂₁ .read-trace .ensures) (omega (arith, short)) _ _ (c₁₇ .check-levels .ensures) (c₁₅ .enum-told .given .1) (c .before .before .before .before .before .before .before .before .settle .ensures)
+    let settle = c .before .before .before .before .before .before .before .before in
+    let told = settle .before .before .before .before .before .before .before in
+    let statistics = told .before .before .before .before .before .before .before .before in
+    let levels = levels-of statistics in
+    let read = read-of levels in
+    lines-read _ _ _ _ _ (read .read-trace .ensures) (omega (arith, start-of read .pre .0)) _ _ (levels .check-levels .ensures) (statistics .check-statistics .ensures) (told .enum-told .given .1) (settle .settle .ensures)
 
 pub read-spec : {M : Type 1} → statement M
 read-spec =
@@ -67,15 +98,20 @@ read-spec =
     (tie.spec
     read-trace-requires
     check-levels-requires
+    check-statistics-requires
     enum-known-fault
     enum-told
     settle-requires
     same-length
-    returns
     same-length-2
     same-length-3
     same-length-4
     same-length-5
+    returns
     same-length-6
     same-length-7
+    same-length-8
+    same-length-9
+    same-length-10
+    same-length-11
     returns-2)

@@ -1,8 +1,8 @@
--- `named::names::is_same` meets its contract: the library compares the bytes.
+-- `texts::is_same` meets its contract: the library compares the bytes.
 use borrow.Author.Needs.{needs}
-use Rattle.named.proofs.Cuts.{same-told}
-use Rattle.named.proofs.names.is_same.Statement.{statement}
-use Rattle.named.proofs.names.is_same.Tie as tie
+use Rattle.texts.proofs.Same.{same-told}
+use Rattle.texts.proofs.is_same.Statement.{statement}
+use Rattle.texts.proofs.is_same.Tie as tie
 
 same-requires : tie.Need-same-requires
 same-requires c κs = search needs

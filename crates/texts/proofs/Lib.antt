@@ -1,0 +1,2 @@
+-- The laws of two texts that are the same.
+pub mod Same
