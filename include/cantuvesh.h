@@ -20,7 +20,7 @@
 extern "C" {
 #endif
 
-#define CANTUVESH_VERSION "0.7.0"
+#define CANTUVESH_VERSION "0.8.0"
 
 /* The sizes of a call. Each of two traces that are merged has the limits of a trace by itself. */
 #define CANTUVESH_TRACE_LIMIT 65536     /* the most bytes that a trace may have */
@@ -38,19 +38,38 @@ extern "C" {
 #define CANTUVESH_LEVELS_OFF 0 /* no levels are expected, and the three numbers are not looked at */
 #define CANTUVESH_LEVELS_ON 1  /* each processor's last mark has to tell the three numbers (17) */
 
+/* What `asked.statistics` may be. */
+#define CANTUVESH_STATISTICS_OFF 0 /* statistics records are read, and what they tell is not compared */
+#define CANTUVESH_STATISTICS_ON 1  /* what they tell has to agree with the records before them (19) */
+
 /* What the caller names beside the trace and the table. Nothing in it has a default here, but C sets
- * what an initializer leaves out to 0, which is refused as a choice and is off as a switch: name both.
+ * what an initializer leaves out to 0, which is refused as a choice and is off as a switch: name all
+ * three.
  *
  * Tracing levels are told by marks: records of type -2 and event -904 with three data under descriptor
  * 2. No other record counts. The three expected levels stand in the order of these data and may be any
  * numbers; one that no field can hold is never met.
+ *
+ * Statistics are records of type -101, -102 and -103, listed whatever their event is. Behind the data
+ * count, which counts pairs, stand "%d%lf" in quotes for -101, or "%d%d", and then the pairs: an event,
+ * and what is told of it. Those with event -1 are compared with their processor's records before them in
+ * the file, at their original times, for each listed event that they name:
+ *
+ *     -101  its time: the exits' times less the entries', to within one microsecond for each entry; where
+ *           entries and exits are not equally many, and a time of -1.000000, it is not compared
+ *     -102  its count: entries and marks
+ *     -103  its volume: of -21 the lengths that were sent by its entries, of -51 and -52 those that were
+ *           received by its exits; of other events it is not compared
+ *
+ * A count or volume of -1 is not compared.
  */
 struct cantuvesh_asked {
-    uint32_t choice; /* what to do with an unlisted line: CANTUVESH_STRICT or CANTUVESH_LENIENT */
-    uint32_t levels; /* whether levels are expected: CANTUVESH_LEVELS_OFF or CANTUVESH_LEVELS_ON */
-    int64_t picl;    /* the expected level of PICL events */
-    int64_t user;    /* the expected level of user events */
-    int64_t trace;   /* the expected level of trace events */
+    uint32_t choice;     /* what to do with an unlisted line: CANTUVESH_STRICT or CANTUVESH_LENIENT */
+    uint32_t levels;     /* whether levels are expected: CANTUVESH_LEVELS_OFF or CANTUVESH_LEVELS_ON */
+    int64_t picl;        /* the expected level of PICL events */
+    int64_t user;        /* the expected level of user events */
+    int64_t trace;       /* the expected level of trace events */
+    uint32_t statistics; /* whether statistics are compared: one of the two above; from 0.8.0 on */
 };
 
 /* Messages are records with three data under descriptor 2: the length in bytes, the type, and the
@@ -100,12 +119,13 @@ struct cantuvesh_answer {
 
 /* Refusals, the first that holds in this order: 1 to 4; then 5 to 12 line by line, the first bad
  * line deciding; then 17, the smallest processor deciding, at the line of its last listed record; then
- * the first receive in file order that calls for 13 or 14; then 15; then 16. Of a merging: 1; then 4 to
+ * 19, at the first statistics record in file order that calls for it; then the first receive in file
+ * order that calls for 13 or 14; then 15; then 16. Of a merging: 1; then 4 to
  * 12 of the first trace; then 4 to 12 of the second; then 18; then 16. No others are asked there. Of a list
  * of messages, or a chain: those of judging up to 15; then, of a chain, 22; then 16.
  *
- *    1  the choice is neither 1 (strict) nor 2 (lenient), or the levels' switch is neither 0 (off)
- *       nor 1 (on)
+ *    1  the choice is neither 1 (strict) nor 2 (lenient), or the levels' or the statistics' switch is
+ *       neither 0 (off) nor 1 (on)
  *    2  the table or the lent times have the wrong length
  *    3  a latency is above 1,000,000
  *    4  the trace is longer than 65,536 bytes
@@ -126,6 +146,8 @@ struct cantuvesh_answer {
  *   17  a processor with listed records has no tracing-level mark that counts, or its last one is not
  *       what is expected
  *   18  both of the traces to be merged hold a listed record of the same processor
+ *   19  a statistics record tells another time, count or volume of an event than its processor's records
+ *       before it give
  *   22  there is no such listed record: the place is not below their number, or none stands on the asked
  *       line
  */
@@ -141,7 +163,8 @@ struct cantuvesh_answer {
  * asked
  *     What the caller names, by value: in asked.choice CANTUVESH_STRICT or CANTUVESH_LENIENT, in
  *     asked.levels CANTUVESH_LEVELS_OFF or CANTUVESH_LEVELS_ON and, where they are on, in asked.picl,
- *     asked.user and asked.trace what the last mark of each processor with listed records has to tell.
+ *     asked.user and asked.trace what the last mark of each processor with listed records has to tell;
+ *     in asked.statistics CANTUVESH_STATISTICS_OFF or CANTUVESH_STATISTICS_ON.
  * times, times_len
  *     Where an accepted trace's corrected times go, in microseconds and in file order of the listed
  *     records: times[0] to times[listed - 1] of CANTUVESH_TIMES places. All later ones are left as
@@ -228,8 +251,8 @@ struct cantuvesh_message {
 /* Lists the messages of one trace: one for each receive, in file order of the receives.
  *
  * trace, trace_len; latencies, latencies_len; asked
- *     As cantuvesh_judge takes them. What that refuses from 1 to 15, and by 17, is refused here, too, with
- *     the same line and column; no times are lent, so 2 means the table alone.
+ *     As cantuvesh_judge takes them. What that refuses from 1 to 15, by 17 and by 19, is refused here, too,
+ *     with the same line and column; no times are lent, so 2 means the table alone.
  * list, list_len
  *     Where the messages go: list[0] to list[filled - 1]. A list that is too short is refused (16); half of
  *     CANTUVESH_TIMES are always enough, and without a message an empty list is. All later places are left

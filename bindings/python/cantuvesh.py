@@ -8,7 +8,7 @@ not gives the least later times at which all agree. The library behind it is pro
 ... -3 -21 0.000011 1 0 3 2 8 2 0
 ... -4 -51 0.000013 0 0 3 2 8 2 1
 ... '''
->>> answer = cantuvesh.judge(trace, cantuvesh.table({}, default=5), "strict", levels="off")
+>>> answer = cantuvesh.judge(trace, cantuvesh.table({}, default=5), "strict", levels="off", statistics="off")
 >>> answer.verdict, answer.matched, list(answer.times)
 ('corrected', 2, [10, 12, 15, 15, 20])
 
@@ -31,7 +31,7 @@ from dataclasses import dataclass
 from pathlib import Path
 from typing import Literal, Tuple, Union
 
-VERSION = "0.7.0"  # of the library: another one's call may be another
+VERSION = "0.8.0"  # of the library: another one's call may be another
 TRACE_LIMIT = 65_536  # the most bytes that a trace may have
 PROCESSORS = 64  # processors are 0 to 63
 LATENCIES = PROCESSORS * PROCESSORS  # the exact number of latencies in a table
@@ -41,14 +41,16 @@ ROOM = TRACE_LIMIT + 8 * TIMES  # so many bytes are enough for every written tra
 
 Choice = Literal["strict", "lenient"]
 Levels = Union[Literal["off"], Tuple[int, int, int]]
+Statistics = Literal["off", "on"]
 Verdict = Literal["consistent", "corrected", "nothing to judge"]
 
 _CHOICES: dict[Choice, int] = {"strict": 1, "lenient": 2}
 _OFF, _ON = 0, 1  # whether levels are expected
+_SWITCHES: dict[Statistics, int] = {"off": 0, "on": 1}
 _VERDICTS: dict[int, Verdict] = {1: "consistent", 2: "corrected", 3: "nothing to judge"}
 
 _SENTENCES = {
-    1: "the choice is neither 1 (strict) nor 2 (lenient), or the levels' switch is neither 0 (off) nor 1 (on)",
+    1: "the choice is neither 1 (strict) nor 2 (lenient), or the levels' or the statistics' switch is neither 0 (off) nor 1 (on)",
     2: "the table or the lent times have the wrong length",
     3: "a latency is above 1,000,000",
     4: "the trace is longer than 65,536 bytes",
@@ -66,6 +68,7 @@ _SENTENCES = {
     16: "the trace to be written, corrected or merged, is longer than the room, or the list to be filled is too short",
     17: "a processor with listed records has no tracing-level mark that counts, or its last one is not what is expected",
     18: "both of the traces to be merged hold a listed record of the same processor",
+    19: "a statistics record tells another time, count or volume of an event than its processor's records before it give",
     22: "there is no such listed record: the place is not below their number, or none stands on the asked line",
 }
 
@@ -140,6 +143,7 @@ def judge(
     table: array[int] | memoryview,
     choice: Choice,
     levels: Levels,
+    statistics: Statistics,
     *,
     written: bool = False,
 ) -> Accepted:
@@ -151,18 +155,26 @@ def judge(
     levels   "off", or the tracing levels that are expected, of PICL, user and trace events: the last mark of each processor
              with listed records has to tell them, a record of type -2 and event -904 with three data under descriptor 2. They
              may be any numbers of 64 bits; one that no field can hold is never met
+    statistics
+             "on" or "off": whether what statistics records of event -1 tell of times (-101), counts (-102) and volumes (-103)
+             has to agree with the earlier records of their processor, times to within one microsecond for each entry
     written  whether the trace with the corrected times is wanted, too
 
     >>> trace = b"-2 -904 0.000000 0 0 3 2 4 4 0\\n-3 7 0.000001 0 0 0\\n"
-    >>> judge(trace, table({}, default=0), "strict", levels=(4, 4, 0)).listed
+    >>> judge(trace, table({}, default=0), "strict", levels=(4, 4, 0), statistics="on").listed
     2
     >>> try:
-    ...     judge(trace, table({}, default=0), "strict", levels=(4, 4, 1))
+    ...     judge(trace, table({}, default=0), "strict", levels=(4, 4, 1), statistics="on")
     ... except Refused as refused:
     ...     print(refused.number, refused.line)
     17 2
+    >>> try:
+    ...     judge(b'-102 -1 0.000001 0 0 1 "%d%d" 7 2\\n', table({}, default=0), "strict", levels="off", statistics="on")
+    ... except Refused as refused:
+    ...     print(refused.number, refused.line)
+    19 1
     """
-    asked = _asked(choice, levels)
+    asked = _asked(choice, levels, statistics)
     text = _text(trace, "the trace")
     latencies = _latencies(table)
     times = (ctypes.c_int64 * TIMES)()
@@ -219,6 +231,7 @@ def messages(
     table: array[int] | memoryview,
     choice: Choice,
     levels: Levels,
+    statistics: Statistics,
 ) -> list[tuple[int, int]]:
     """Lists the messages of one trace, one for each receive and in file order of the receives: the places of its send and of its
     receive. Places count the listed records from 0 in file order, as the times of `judge` do.
@@ -226,10 +239,10 @@ def messages(
     The arguments are those of `judge`, and what that refuses raises the same Refused.
 
     >>> trace = b"-4 -52 0.000009 1 0 3 2 8 1 0\\n-3 -21 0.000010 0 0 3 2 8 1 1\\n"
-    >>> messages(trace, table({}, default=5), "strict", levels="off")
+    >>> messages(trace, table({}, default=5), "strict", levels="off", statistics="off")
     [(1, 0)]
     """
-    asked = _asked(choice, levels)
+    asked = _asked(choice, levels, statistics)
     text = _text(trace, "the trace")
     latencies = _latencies(table)
     places = (_Message * (TIMES // 2))()  # each has two records
@@ -245,6 +258,7 @@ def chain(
     table: array[int] | memoryview,
     choice: Choice,
     levels: Levels,
+    statistics: Statistics,
     place: int,
 ) -> list[int]:
     """Tells why one record's time moved: the places of the records from it back to one that is still at its original time.
@@ -260,10 +274,10 @@ def chain(
     The other arguments are those of `judge`, and what that refuses raises the same Refused.
 
     >>> trace = b"-3 -21 0.000010 0 0 3 2 8 1 1\\n-4 -52 0.000009 1 0 3 2 8 1 0\\n-3 7 0.000011 1 0 0\\n"
-    >>> chain(trace, table({}, default=5), "strict", levels="off", place=2)
+    >>> chain(trace, table({}, default=5), "strict", levels="off", statistics="off", place=2)
     [2, 1, 0]
     """
-    asked = _asked(choice, levels)
+    asked = _asked(choice, levels, statistics)
     if not _is_whole(place, 2**64 - 1):
         raise ValueError(f"the place should be a whole number of 64 bits from 0, and is {place!r}")
     text = _text(trace, "the trace")
@@ -282,14 +296,17 @@ def _numbered(choice: Choice) -> int:
     return _CHOICES[choice]
 
 
-def _asked(choice: Choice, levels: Levels) -> _Asked:
+def _asked(choice: Choice, levels: Levels, statistics: Statistics) -> _Asked:
     number = _numbered(choice)
+    if not (isinstance(statistics, str) and statistics in _SWITCHES):
+        raise ValueError(f'the statistics should be "on" or "off", and are {statistics!r}')
+    switch = _SWITCHES[statistics]
     if isinstance(levels, str) and levels == "off":
-        return _Asked(choice=number, levels=_OFF)
+        return _Asked(choice=number, levels=_OFF, statistics=switch)
     if not (isinstance(levels, tuple) and len(levels) == 3 and all(_is_level(level) for level in levels)):
         raise ValueError(f'the levels should be "off" or three whole numbers of 64 bits, and are {levels!r}')
     picl, user, trace = levels
-    return _Asked(choice=number, levels=_ON, picl=picl, user=user, trace=trace)
+    return _Asked(choice=number, levels=_ON, picl=picl, user=user, trace=trace, statistics=switch)
 
 
 def _is_level(value: object) -> bool:
@@ -336,6 +353,7 @@ class _Asked(ctypes.Structure):
         ("choice", ctypes.c_uint32),
         ("levels", ctypes.c_uint32),
         *((name, ctypes.c_int64) for name in ("picl", "user", "trace")),
+        ("statistics", ctypes.c_uint32),
     ]
 
 

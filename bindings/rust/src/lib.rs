@@ -3,7 +3,7 @@
 //! proved; `./library` makes it.
 //!
 //! ```
-//! use cantuvesh::{Asked, Choice, Latencies, Levels, TIMES, Verdict, judge};
+//! use cantuvesh::{Asked, Choice, Latencies, Levels, Statistics, TIMES, Verdict, judge};
 //!
 //! let trace = b"-3 -21 0.000010 0 0 3 2 8 1 1
 //! -4 -21 0.000012 0 0 0
@@ -13,7 +13,7 @@
 //! ";
 //! let latencies = Latencies::everywhere(5);
 //! let mut times = [0; TIMES];
-//! let asked = Asked { choice: Choice::Strict, levels: Levels::Off };
+//! let asked = Asked { choice: Choice::Strict, levels: Levels::Off, statistics: Statistics::Off };
 //! let accepted = judge(trace, &latencies, asked, &mut times, None)?;
 //! assert_eq!(accepted.verdict, Verdict::Corrected);
 //! assert_eq!(times[..accepted.listed], [10, 12, 15, 15, 20]);
@@ -73,11 +73,11 @@ pub enum Choice {
 /// other record counts.
 ///
 /// ```
-/// use cantuvesh::{Asked, Choice, Latencies, Levels, Refusal, TIMES, judge};
+/// use cantuvesh::{Asked, Choice, Latencies, Levels, Refusal, Statistics, TIMES, judge};
 ///
 /// let trace = b"-2 -904 0.000000 0 0 3 2 4 4 0\n-3 7 0.000001 0 0 0\n";
 /// let judged = |levels| {
-///     let asked = Asked { choice: Choice::Strict, levels };
+///     let asked = Asked { choice: Choice::Strict, levels, statistics: Statistics::Off };
 ///     judge(trace, &Latencies::everywhere(0), asked, &mut [0; TIMES], None)
 /// };
 /// assert!(judged(Levels::Off).is_ok());
@@ -101,6 +101,31 @@ pub enum Levels {
     },
 }
 
+/// Whether what statistics records tell is compared. There is no default.
+///
+/// They are records of type -101 (times), -102 (counts) and -103 (volumes), and listed whatever their event
+/// is. Those with event -1 are held against the earlier records of their processor.
+///
+/// ```
+/// use cantuvesh::{Asked, Choice, Latencies, Levels, Refusal, Statistics, TIMES, judge};
+///
+/// let trace = b"-3 7 0.000001 0 0 0\n-102 -1 0.000001 0 0 1 \"%d%d\" 7 2\n";
+/// let judged = |statistics| {
+///     let asked = Asked { choice: Choice::Strict, levels: Levels::Off, statistics };
+///     judge(trace, &Latencies::everywhere(0), asked, &mut [0; TIMES], None)
+/// };
+/// assert!(judged(Statistics::Off).is_ok());
+/// let refused = judged(Statistics::Compared).unwrap_err();
+/// assert_eq!((refused.refusal, refused.line.unwrap().get()), (Refusal::Statistics, 2));
+/// ```
+#[derive(Clone, Copy, Debug, PartialEq, Eq, Hash)]
+pub enum Statistics {
+    /// It is not: they are read, and any good numbers will do.
+    Off = 0,
+    /// A time agrees to within one microsecond for each entry, a count and a volume exactly.
+    Compared = 1,
+}
+
 /// What the caller names beside the trace and the table. Nothing in it has a default: what is asked for
 /// later becomes a field, and a caller is compiled again only when it names that too.
 #[derive(Clone, Copy, Debug, PartialEq, Eq, Hash)]
@@ -109,16 +134,18 @@ pub struct Asked {
     pub choice: Choice,
     /// The tracing levels that are expected, if any.
     pub levels: Levels,
+    /// Whether statistics records are compared.
+    pub statistics: Statistics,
 }
 
 /// As the C call takes it: the numbers of levels that are off are not looked at.
 impl From<Asked> for raw::Asked {
-    fn from(Asked { choice, levels }: Asked) -> raw::Asked {
-        let choice = choice as u32;
-        match levels {
-            Levels::Off => raw::Asked { choice, levels: 0, picl: 0, user: 0, trace: 0 },
-            Levels::Expected { picl, user, trace } => raw::Asked { choice, levels: 1, picl, user, trace },
-        }
+    fn from(Asked { choice, levels, statistics }: Asked) -> raw::Asked {
+        let (levels, [picl, user, trace]) = match levels {
+            Levels::Off => (0, [0; 3]),
+            Levels::Expected { picl, user, trace } => (1, [picl, user, trace]),
+        };
+        raw::Asked { choice: choice as u32, levels, picl, user, trace, statistics: statistics as u32 }
     }
 }
 
@@ -254,13 +281,13 @@ pub fn merge(first: &[u8], second: &[u8], choice: Choice, room: &mut [u8]) -> Re
 /// All later places of the list are left as they were, and every place if the call is refused.
 ///
 /// ```
-/// use cantuvesh::{Asked, Choice, Latencies, Levels, Message, TIMES, messages};
+/// use cantuvesh::{Asked, Choice, Latencies, Levels, Message, Statistics, TIMES, messages};
 ///
 /// let trace = b"-3 7 0.000009 0 0 0
 /// -4 -52 0.000009 1 0 3 2 8 1 0
 /// -3 -21 0.000010 0 0 3 2 8 1 1
 /// ";
-/// let asked = Asked { choice: Choice::Strict, levels: Levels::Off };
+/// let asked = Asked { choice: Choice::Strict, levels: Levels::Off, statistics: Statistics::Off };
 /// let mut list = [Message::default(); TIMES / 2];
 /// let many = messages(trace, &Latencies::everywhere(5), asked, &mut list)?;
 /// assert_eq!(list[..many], [Message { send: 2, receive: 1 }]);
@@ -295,14 +322,14 @@ pub fn messages(
 /// All later places of the list are left as they were, and every place if the call is refused.
 ///
 /// ```
-/// use cantuvesh::{Asked, Choice, Latencies, Levels, Refusal, TIMES, chain};
+/// use cantuvesh::{Asked, Choice, Latencies, Levels, Refusal, Statistics, TIMES, chain};
 ///
 /// let trace = b"-3 -21 0.000010 0 0 3 2 8 1 1
 /// -4 -52 0.000009 1 0 3 2 8 1 0
 /// -3 7 0.000011 1 0 0
 /// ";
 /// let latencies = Latencies::everywhere(5);
-/// let asked = Asked { choice: Choice::Strict, levels: Levels::Off };
+/// let asked = Asked { choice: Choice::Strict, levels: Levels::Off, statistics: Statistics::Off };
 /// let mut list = [0; TIMES];
 /// let many = chain(trace, &latencies, asked, 2, &mut list)?;
 /// assert_eq!(list[..many], [2, 1, 0]); // at 15 by 15 before it, that is 10 and 5

@@ -18,6 +18,8 @@ pub struct Asked {
     pub user: i64,
     /// The expected level of trace events.
     pub trace: i64,
+    /// Whether statistics records are compared: 0 off, 1 on; all else is refusal 1.
+    pub statistics: u32,
 }
 
 /// `struct cantuvesh_answer`: a refusal has its number, line and column, and 0 in all the rest.

@@ -35,7 +35,7 @@ macro_rules! refusals {
 }
 
 refusals! {
-    Choice = 1 "the choice is neither 1 (strict) nor 2 (lenient), or the levels' switch is neither 0 (off) nor 1 (on)"
+    Choice = 1 "the choice is neither 1 (strict) nor 2 (lenient), or the levels' or the statistics' switch is neither 0 (off) nor 1 (on)"
     Lengths = 2 "the table or the lent times have the wrong length"
     Latency = 3 "a latency is above 1,000,000"
     TraceTooLong = 4 "the trace is longer than 65,536 bytes"
@@ -53,6 +53,7 @@ refusals! {
     RoomTooShort = 16 "the trace to be written, corrected or merged, is longer than the room, or the list to be filled is too short"
     Levels = 17 "a processor with listed records has no tracing-level mark that counts, or its last one is not what is expected"
     SharedProcessor = 18 "both of the traces to be merged hold a listed record of the same processor"
+    Statistics = 19 "a statistics record tells another time, count or volume of an event than its processor's records before it give"
     NoSuchRecord = 22 "there is no such listed record: the place is not below their number, or none stands on the asked line"
 }
 
@@ -92,10 +93,10 @@ impl Which {
 /// The answer on a trace, or a whole call, that is refused.
 ///
 /// ```
-/// use cantuvesh::{Asked, Choice, Latencies, Levels, TIMES, judge};
+/// use cantuvesh::{Asked, Choice, Latencies, Levels, Statistics, TIMES, judge};
 ///
 /// let trace = b"-3 7 0.000000 0 0 0\n-4 7 0.000001 0 0 3 2 8 one 1\n";
-/// let asked = Asked { choice: Choice::Strict, levels: Levels::Off };
+/// let asked = Asked { choice: Choice::Strict, levels: Levels::Off, statistics: Statistics::Off };
 /// let refused = judge(trace, &Latencies::everywhere(0), asked, &mut [0; TIMES], None).unwrap_err();
 /// let (line, column) = (refused.line.unwrap().get(), refused.column.unwrap().get());
 /// assert_eq!((refused.refusal.number(), line, column), (5, 2, 25));

@@ -2,8 +2,8 @@
 
 use cantuvesh::Refusal::{self, *};
 use cantuvesh::{
-    Accepted, Asked, Choice, LATENCIES, LATENCY_LIMIT, Latencies, Levels, ROOM, Refused, TIMES, TRACE_LIMIT,
-    Verdict, judge, raw,
+    Accepted, Asked, Choice, LATENCIES, LATENCY_LIMIT, Latencies, Levels, ROOM, Refused, Statistics, TIMES,
+    TRACE_LIMIT, Verdict, judge, raw,
 };
 use std::mem::{offset_of, size_of};
 use std::num::NonZero;
@@ -13,8 +13,8 @@ const TRACE_B: &[u8] = include_bytes!("../../../samples/b.picl");
 const SILENT: &[u8] = include_bytes!("../../../samples/silent.picl");
 const POSTED: &[u8] = include_bytes!("../../../samples/posted.picl");
 
-const STRICT: Asked = Asked { choice: Choice::Strict, levels: Levels::Off };
-const LENIENT: Asked = Asked { choice: Choice::Lenient, levels: Levels::Off };
+const STRICT: Asked = Asked { choice: Choice::Strict, levels: Levels::Off, statistics: Statistics::Off };
+const LENIENT: Asked = Asked { choice: Choice::Lenient, ..STRICT };
 
 /// Stands in every lent place beforehand; no time of a sample.
 const UNTOUCHED: i64 = -7;
@@ -182,7 +182,7 @@ fn levels_that_are_expected() {
     let elsewhere = b"-3 7 0.000001 1 0 0\n".as_slice();
     let expected = Levels::Expected { picl: 4, user: -1, trace: 999_999_999 };
     let judged = |lines: &[&[u8]], levels| {
-        let asked = Asked { choice: Choice::Strict, levels };
+        let asked = Asked { levels, ..STRICT };
         judged(&lines.concat(), &Latencies::everywhere(0), asked, None).0
     };
     for lines in [&[][..], &[good, event], &[other, good, short]] {
@@ -200,6 +200,24 @@ fn levels_that_are_expected() {
         assert_eq!(reason(judged(&[good, event], levels)), (Refusal::Levels, 2, 0));
     }
     assert_eq!(judged(&[good, other, event, elsewhere], Levels::Off).unwrap().listed, 4);
+}
+
+#[test]
+fn statistics_that_are_compared() {
+    let entry = b"-3 7 0.000001 0 0 0\n".as_slice();
+    let right = b"-102 -1 0.000001 0 0 1 \"%d%d\" 7 1\n".as_slice();
+    let wrong = b"-102 -1 0.000001 0 0 1 \"%d%d\" 7 2\n".as_slice();
+    let judged = |lines: &[&[u8]], statistics| {
+        let asked = Asked { statistics, ..STRICT };
+        judged(&lines.concat(), &Latencies::everywhere(0), asked, None).0
+    };
+    for lines in [&[][..], &[entry, right], &[entry, right, entry, wrong]] {
+        assert_eq!(judged(lines, Statistics::Compared), judged(lines, Statistics::Off));
+        assert_eq!(judged(lines, Statistics::Compared).unwrap().listed, lines.len());
+    }
+    let differing = [entry, right, wrong, wrong];
+    assert_eq!(reason(judged(&differing, Statistics::Compared)), (Refusal::Statistics, 3, 0));
+    assert_eq!(judged(&differing, Statistics::Off).unwrap().listed, 4);
 }
 
 #[test]
@@ -228,7 +246,8 @@ fn raw_gives_the_numbers_as_they_are() {
         rounds: 0,
         written: 0,
     };
-    let off = |choice| raw::Asked { choice, levels: 0, picl: i64::MAX, user: -7, trace: i64::MIN };
+    let off =
+        |choice| raw::Asked { choice, levels: 0, picl: i64::MAX, user: -7, trace: i64::MIN, statistics: 0 };
     let call = |asked, trace, latencies: &[u32], times: usize| {
         raw::LINKED.judge(trace, latencies, asked, &mut vec![0; times], true, &mut [0; ROOM])
     };
@@ -238,6 +257,9 @@ fn raw_gives_the_numbers_as_they_are() {
     }
     for levels in [2, 257, u32::MAX] {
         assert_eq!(call(raw::Asked { levels, ..off(1) }, b"", &[], 0), raw::Answer { number: 1, ..none });
+    }
+    for statistics in [2, 257, u32::MAX] {
+        assert_eq!(call(raw::Asked { statistics, ..off(1) }, b"", &[], 0), raw::Answer { number: 1, ..none });
     }
     assert_eq!(call(off(1), b"", &[], 0), raw::Answer { number: 2, ..none });
     let of_a_field = raw::Answer { number: 5, line: 1, column: 2, ..none };
@@ -258,8 +280,9 @@ fn what_is_asked_has_the_places_of_c() {
         offset_of!(Asked, picl),
         offset_of!(Asked, user),
         offset_of!(Asked, trace),
+        offset_of!(Asked, statistics),
     ];
-    assert_eq!((places, size_of::<Asked>()), ([0, 4, 8, 16, 24], 32));
+    assert_eq!((places, size_of::<Asked>()), ([0, 4, 8, 16, 24, 32], 40));
 }
 
 /// As a C compiler lays out `struct cantuvesh_answer`.

@@ -2,8 +2,8 @@
 
 use cantuvesh::Refusal::{self, *};
 use cantuvesh::{
-    Asked, Choice, LATENCIES, LATENCY_LIMIT, Latencies, Levels, Message, Refused, TIMES, TRACE_LIMIT, chain,
-    judge, messages, raw,
+    Asked, Choice, LATENCIES, LATENCY_LIMIT, Latencies, Levels, Message, Refused, Statistics, TIMES,
+    TRACE_LIMIT, chain, judge, messages, raw,
 };
 use std::mem::{align_of, offset_of, size_of};
 use std::num::NonZero;
@@ -13,8 +13,8 @@ const TRACE_B: &[u8] = include_bytes!("../../../samples/b.picl");
 const SILENT: &[u8] = include_bytes!("../../../samples/silent.picl");
 const POSTED: &[u8] = include_bytes!("../../../samples/posted.picl");
 
-const STRICT: Asked = Asked { choice: Choice::Strict, levels: Levels::Off };
-const LENIENT: Asked = Asked { choice: Choice::Lenient, levels: Levels::Off };
+const STRICT: Asked = Asked { choice: Choice::Strict, levels: Levels::Off, statistics: Statistics::Off };
+const LENIENT: Asked = Asked { choice: Choice::Lenient, ..STRICT };
 
 /// Stands in every lent place beforehand; no record has it.
 const UNTOUCHED: u64 = u64::MAX - 7;
@@ -208,7 +208,7 @@ fn what_judging_refuses() {
     one_way[(0, 1)] = 1;
     assert_eq!(refused(TRACE_B, &one_way, STRICT), (NoTimes, 0, 0));
     let levels = Levels::Expected { picl: 1, user: 1, trace: 1 };
-    let asked = Asked { choice: Choice::Strict, levels };
+    let asked = Asked { levels, ..STRICT };
     assert_eq!(refused(TRACE_A, &none, asked), (Refusal::Levels, 5, 0));
 }
 
@@ -246,7 +246,8 @@ fn a_refusal_says_its_number_and_its_sentence() {
 #[test]
 fn raw_gives_the_numbers_as_they_are() {
     let none = raw::Filled { number: 0, line: 0, column: 0, filled: 0 };
-    let off = |choice| raw::Asked { choice, levels: 0, picl: i64::MAX, user: -7, trace: i64::MIN };
+    let off =
+        |choice| raw::Asked { choice, levels: 0, picl: i64::MAX, user: -7, trace: i64::MIN, statistics: 0 };
     let list = |asked, trace, latencies: &[u32], places: usize| {
         raw::LINKED.messages(trace, latencies, asked, &mut vec![NO_MESSAGE; places])
     };
