@@ -24,7 +24,8 @@ int main(void)
     for (size_t pair = 0; pair < CANTUVESH_LATENCIES; pair++)
         latencies[pair] = 5;
 
-    struct cantuvesh_asked asked = {.choice = CANTUVESH_STRICT, .levels = CANTUVESH_LEVELS_OFF};
+    struct cantuvesh_asked asked = {
+        .choice = CANTUVESH_STRICT, .levels = CANTUVESH_LEVELS_OFF, .statistics = CANTUVESH_STATISTICS_OFF};
     struct cantuvesh_answer answer = cantuvesh_judge(
         (const uint8_t *)trace, sizeof trace - 1,
         latencies, CANTUVESH_LATENCIES,

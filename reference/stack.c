@@ -17,7 +17,8 @@ static size_t trace_len;
 static uint32_t latencies[CANTUVESH_LATENCIES];
 static int64_t times[CANTUVESH_TIMES];
 static uint8_t room[CANTUVESH_ROOM];
-static const struct cantuvesh_asked asked = {.choice = CANTUVESH_STRICT, .levels = CANTUVESH_LEVELS_OFF};
+static const struct cantuvesh_asked asked = {
+    .choice = CANTUVESH_STRICT, .levels = CANTUVESH_LEVELS_OFF, .statistics = CANTUVESH_STATISTICS_OFF};
 static struct cantuvesh_answer answer;
 
 static char nodes[2][CANTUVESH_TRACE_LIMIT];

@@ -5,13 +5,17 @@
 #[path = "archive.rs"]
 pub mod archive;
 #[cfg(feature = "before")]
-#[cfg_attr(not(feature = "before-column"), path = "before.rs")]
+#[cfg_attr(not(feature = "before-statistics"), path = "before.rs")]
+#[cfg_attr(all(feature = "before-statistics", not(feature = "before-column")), path = "before_statistics.rs")]
 #[cfg_attr(all(feature = "before-column", not(feature = "before-levels")), path = "before_column.rs")]
 #[cfg_attr(feature = "before-levels", path = "before_levels.rs")]
 mod before;
 #[cfg(feature = "before-column")]
 #[path = "without_column.rs"]
 mod without_column;
+#[cfg(all(feature = "before-statistics", not(feature = "before-levels")))]
+#[path = "without_statistics.rs"]
+pub mod without_statistics;
 
 use crate::sample;
 use crate::turns::Sides;

@@ -1,4 +1,4 @@
-//! An older library as a lister, from version 0.7 on. `reference/bench` has given its functions other names.
+//! An older library as a lister, from version 0.8 on. `reference/bench` has given its functions other names.
 
 use crate::lister::{chain_by, messages_by};
 use cantuvesh::raw::LINKED;

@@ -3,7 +3,8 @@
 //! All of them fill the same lists, which are not cleared between calls.
 
 #[cfg(all(feature = "before", not(feature = "before-lists")))]
-#[path = "lister_before.rs"]
+#[cfg_attr(not(feature = "before-statistics"), path = "lister_before.rs")]
+#[cfg_attr(feature = "before-statistics", path = "lister_before_statistics.rs")]
 mod lister_before;
 
 use crate::turns::Sides;

@@ -56,7 +56,7 @@ fn whole_run(folder: &Path) -> io::Result<Vec<PathBuf>> {
 
 /// One more line, so that the trace has 65,536 bytes.
 fn fill_with_a_passed_line(trace: &mut Vec<u8>) {
-    trace.extend(b"-101 -1 0.000000 0 0 1 ");
+    trace.extend(b"-111 -1 0.000000 0 0 1 ");
     trace.resize(MAX_BYTES - 1, b'x');
     trace.push(b'\n');
 }

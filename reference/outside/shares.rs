@@ -165,6 +165,6 @@ fn lines_of(records: impl Iterator<Item = Record>) -> Vec<Vec<u8>> {
 }
 
 fn workload(trace: Vec<u8>) -> Workload {
-    let asked = Asked::with_levels_off(2);
+    let asked = Asked::choice_alone(2);
     Workload { name: "shares", asked, trace, latencies: flat_table(0), wanted: false }
 }

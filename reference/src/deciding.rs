@@ -2,13 +2,13 @@
 
 use crate::field::{Field, fields};
 use crate::form::whole;
-use crate::line::{Standing, standing};
+use crate::line::{Standing, Told, standing};
 use crate::{Answer, PROCESSORS};
 
 const SIX: [&str; 6] = ["record type", "event", "timestamp", "processor", "process", "count"];
 const DESCRIPTOR: usize = SIX.len();
-/// The place of the last of sixteen data.
-const LAST: usize = DESCRIPTOR + 16;
+/// The place of the last datum of sixteen pairs.
+const LAST: usize = DESCRIPTOR + 2 * 16;
 
 /// All that a column can mean, each with the number of its refusal.
 pub fn all() -> Vec<String> {
@@ -81,6 +81,7 @@ fn in_form(fields: &[Field], column: u64) -> String {
     }
     let unlisted = !is_listed_type(fields) || is_unlisted_event(fields);
     let count = whole_at(fields, 5);
+    let data = if tells_statistics(fields) { 2 * count } else { count };
     match fields.iter().position(|field| field.column == column) {
         None if unlisted => "nothing behind, unlisted".to_string(),
         None => format!("no {}", name(fields.len())),
@@ -89,7 +90,7 @@ fn in_form(fields: &[Field], column: u64) -> String {
         Some(DESCRIPTOR) if count == 0 && unlisted => "too many, unlisted".to_string(),
         Some(DESCRIPTOR) if count == 0 => "too many, without data".to_string(),
         Some(DESCRIPTOR) if unlisted => "a space behind, unlisted".to_string(),
-        Some(place) if (place - DESCRIPTOR) as i64 > count => "too many".to_string(),
+        Some(place) if (place - DESCRIPTOR) as i64 > data => "too many".to_string(),
         Some(place) => name(place),
     }
 }
@@ -115,11 +116,16 @@ fn in_meaning(fields: &[Field], number: u64) -> String {
 }
 
 fn is_listed_type(fields: &[Field]) -> bool {
-    matches!(whole_at(fields, 0), -4..=-2 | 0)
+    matches!(whole_at(fields, 0), -4..=-2 | 0) || tells_statistics(fields)
 }
 
+fn tells_statistics(fields: &[Field]) -> bool {
+    Told::by(whole_at(fields, 0)).is_some()
+}
+
+/// Of statistics the event is not asked.
 fn is_unlisted_event(fields: &[Field]) -> bool {
-    standing(whole_at(fields, 1)) == Standing::Unlisted
+    !tells_statistics(fields) && standing(whole_at(fields, 1)) == Standing::Unlisted
 }
 
 /// The whole number at a place, 0 if there is none.

@@ -1,12 +1,12 @@
-//! Document 01 and requests 1 to 7 of document 02 in plain Rust: one trace in; verdict, counts, corrected
+//! Document 01 and requests 1 to 8 of document 02 in plain Rust: one trace in; verdict, counts, corrected
 //! times and the corrected trace out; or its messages, or why a time moved. Or two traces in, and one out.
 //!
 //! Written from the papers alone, to be held against the proved library (`outside/compare.rs`) and
 //! measured beside it (`outside/bench.rs`). The modules follow the papers' order: [`form`],
 //! [`field`] and [`line`] are "One line, one record" and requests 2 and 5, [`trace`] reads line after line,
 //! [`levels`] is request 1, [`message`] and [`clock`] are "Matching and the clock condition" and request 4,
-//! [`report`] is what the program prints, [`merge`] is request 6, and [`list`] and [`chain`] are request 7.
-//! Request 3 asks for speed alone.
+//! [`report`] is what the program prints, [`merge`] is request 6, [`list`] and [`chain`] are request 7, and
+//! [`statistics`] is request 8. Request 3 asks for speed alone.
 
 #![forbid(unsafe_code)]
 
@@ -26,6 +26,7 @@ pub mod merge_trial;
 pub mod message;
 pub mod refusal;
 pub mod report;
+pub mod statistics;
 pub mod trace;
 pub mod trial;
 
@@ -78,26 +79,45 @@ pub struct Asked {
     pub picl: i64,
     pub user: i64,
     pub trace: i64,
+    /// Whether statistics records are compared: 0 off, 1 on.
+    pub statistics: u32,
 }
 
 impl Asked {
-    pub const fn with_levels_off(choice: u32) -> Asked {
-        Asked { choice, levels: 0, picl: 0, user: 0, trace: 0 }
+    /// A choice, and nothing else is asked for.
+    pub const fn choice_alone(choice: u32) -> Asked {
+        Asked { choice, levels: 0, picl: 0, user: 0, trace: 0, statistics: 0 }
     }
 
     pub const fn expecting(choice: u32, Levels { picl, user, trace }: Levels) -> Asked {
-        Asked { choice, levels: 1, picl, user, trace }
+        Asked { levels: 1, picl, user, trace, ..Asked::choice_alone(choice) }
     }
 
-    /// The choice and, where they are on, the expected levels; none if either number is refusal 1.
-    fn heard(self) -> Option<(Choice, Option<Levels>)> {
-        let Asked { choice, levels, picl, user, trace } = self;
-        let choice = Choice::numbered(choice)?;
-        match levels {
-            0 => Some((choice, None)),
-            1 => Some((choice, Some(Levels { picl, user, trace }))),
-            _ => None,
-        }
+    pub const fn comparing(choice: u32) -> Asked {
+        Asked { statistics: 1, ..Asked::choice_alone(choice) }
+    }
+
+    /// What the numbers say; none if one of them is refusal 1.
+    fn heard(self) -> Option<Heard> {
+        let Asked { choice, levels, picl, user, trace, statistics } = self;
+        let expected = is_on(levels)?.then_some(Levels { picl, user, trace });
+        Some(Heard { choice: Choice::numbered(choice)?, expected, compared: is_on(statistics)? })
+    }
+}
+
+/// What is asked for, where all numbers are good.
+struct Heard {
+    choice: Choice,
+    expected: Option<Levels>,
+    compared: bool,
+}
+
+/// What a switch says, if it is one.
+fn is_on(switch: u32) -> Option<bool> {
+    match switch {
+        0 => Some(false),
+        1 => Some(true),
+        _ => None,
     }
 }
 
@@ -155,7 +175,7 @@ pub fn judge(call: Inputs) -> Answer {
     })
 }
 
-/// What a trace comes to that is refused by none of 1 to 15 and 17.
+/// What a trace comes to that is refused by none of 1 to 15, 17 and 19.
 pub struct Solved {
     pub records: Vec<trace::Record>,
     pub passed: u64,
@@ -166,7 +186,7 @@ pub struct Solved {
 /// Reads a trace, pairs its messages and settles its times. The times that are lent are so many.
 pub fn solve(question: Question, times: usize) -> Result<Solved, Refusal> {
     let Question { trace, latencies, asked } = question;
-    let (choice, expected) = asked.heard().ok_or(Refusal::of_all(refusal::ASKED))?;
+    let Heard { choice, expected, compared } = asked.heard().ok_or(Refusal::of_all(refusal::ASKED))?;
     if latencies.len() != LATENCIES || times != MAX_RECORDS {
         return Err(Refusal::of_all(refusal::LENGTH));
     }
@@ -177,6 +197,9 @@ pub fn solve(question: Question, times: usize) -> Result<Solved, Refusal> {
     let trace::Listing { records, passed } = trace::read(trace, choice)?;
     if let Some(expected) = expected {
         levels::check(&records, expected)?;
+    }
+    if compared {
+        statistics::check(&records)?;
     }
     let messages = message::pair(&records)?;
     let settled = clock::settle(&records, &messages.send_of, latencies);

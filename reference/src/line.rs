@@ -24,6 +24,60 @@ pub struct Record {
     pub role: Role,
     /// The tracing levels that it tells, if it is a mark that counts.
     pub levels: Option<Levels>,
+    pub subject: Subject,
+}
+
+/// What a record is to the statistics.
+#[derive(Clone, Debug, PartialEq, Eq)]
+pub enum Subject {
+    /// A mark, an entry or an exit of an event.
+    Counted(Counted, i64),
+    /// A statistics record with event field -1: its pairs, each an event and what is told of it.
+    Told(Told, Vec<(i64, i64)>),
+    Neither,
+}
+
+#[derive(Clone, Copy, Debug, PartialEq, Eq)]
+pub enum Counted {
+    Mark,
+    Entry,
+    Exit,
+}
+
+/// What a statistics record tells of events.
+#[derive(Clone, Copy, Debug, PartialEq, Eq)]
+pub enum Told {
+    Times,
+    Counts,
+    Volumes,
+}
+
+impl Told {
+    /// By the record type, if it is one of statistics.
+    pub fn by(record_type: i64) -> Option<Told> {
+        match record_type {
+            -101 => Some(Told::Times),
+            -102 => Some(Told::Counts),
+            -103 => Some(Told::Volumes),
+            _ => None,
+        }
+    }
+
+    /// "The descriptor is the quoted text".
+    pub fn descriptor(self) -> &'static str {
+        match self {
+            Told::Times => "\"%d%lf\"",
+            Told::Counts | Told::Volumes => "\"%d%d\"",
+        }
+    }
+
+    /// The form of what is told of an event.
+    fn form(self) -> fn(&[u8]) -> Option<i64> {
+        match self {
+            Told::Times => time,
+            Told::Counts | Told::Volumes => whole,
+        }
+    }
 }
 
 /// The part that a record has in a message, if any.
@@ -76,7 +130,9 @@ pub fn read(line: &[u8], choice: Choice) -> Result<Line, Fault> {
     let count = six[5].read(stated, FORM)?;
 
     // The field that makes the line unlisted, if one does: of two the record type.
+    let told = Told::by(record_type);
     let unlisted = match (record_type, standing(event)) {
+        _ if told.is_some() => None,
         (-4..=-2 | 0, Standing::Listed) => None,
         (-4..=-2 | 0, Standing::NotHandled) => return Err(six[1].refused(NOT_HANDLED)),
         (-4..=-2 | 0, Standing::Unlisted) => Some(six[1]),
@@ -97,6 +153,14 @@ pub fn read(line: &[u8], choice: Choice) -> Result<Line, Fault> {
     if count > 16 {
         return Err(six[5].refused(FORM));
     }
+    let start = six[2].column as usize - 1;
+    let stamp = start..start + six[2].text.len();
+    if let Some(told) = told {
+        let pairs = pairs(told, count, rest, missing)?;
+        let subject = if event == -1 { Subject::Told(told, pairs) } else { Subject::Neither };
+        let role = Role::Local;
+        return Ok(Line::Listed(Record { processor, time, stamp, role, levels: None, subject }));
+    }
     let data = Data::read(count, rest, missing)?;
     // A send is where it begins and a receive where it is complete: -59 found that it is not, and what
     // tells of a send's end tells of no arrival.
@@ -109,9 +173,13 @@ pub fn read(line: &[u8], choice: Choice) -> Result<Line, Fault> {
         (-2, -904) => data.levels(),
         _ => None,
     };
-    let start = six[2].column as usize - 1;
-    let stamp = start..start + six[2].text.len();
-    Ok(Line::Listed(Record { processor, time, stamp, role, levels }))
+    let subject = match record_type {
+        -2 => Subject::Counted(Counted::Mark, event),
+        -3 => Subject::Counted(Counted::Entry, event),
+        -4 => Subject::Counted(Counted::Exit, event),
+        _ => Subject::Neither,
+    };
+    Ok(Line::Listed(Record { processor, time, stamp, role, levels, subject }))
 }
 
 /// The number of data fields, as any line may state it.
@@ -131,7 +199,31 @@ fn end_of_unlisted(count: i64, seventh: Option<Field>, missing: Fault) -> Result
     }
 }
 
-/// What a listed record has behind its six fields.
+/// Descriptor and pairs of a statistics line from left to right, exactly as many as stated.
+fn pairs<'a>(
+    told: Told,
+    count: i64,
+    mut rest: impl Iterator<Item = Field<'a>>,
+    missing: Fault,
+) -> Result<Vec<(i64, i64)>, Fault> {
+    let mut pairs = Vec::new();
+    if count > 0 {
+        let descriptor = rest.next().ok_or(missing)?;
+        if descriptor.text != told.descriptor().as_bytes() {
+            return Err(descriptor.refused(FORM));
+        }
+        for _ in 0..count {
+            let event = rest.next().ok_or(missing)?.read(whole, FORM)?;
+            pairs.push((event, rest.next().ok_or(missing)?.read(told.form(), FORM)?));
+        }
+    }
+    match rest.next() {
+        Some(surplus) => Err(surplus.refused(FORM)),
+        None => Ok(pairs),
+    }
+}
+
+/// What another listed record has behind its six fields.
 struct Data<'a> {
     /// None where there are no data.
     descriptor: Option<Field<'a>>,

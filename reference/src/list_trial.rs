@@ -4,7 +4,7 @@ use crate::chain::{IN_ORDER, Moved, Step};
 use crate::generator::inquiry::{Inquiry, Link};
 use crate::lent::{Lent, pattern};
 use crate::list::{self, Ends, Filled};
-use crate::refusal::{BYTES, LEVELS, NO_RECORD, NO_TIMES, RECORDS, ROOM};
+use crate::refusal::{BYTES, LEVELS, NO_RECORD, NO_TIMES, RECORDS, ROOM, STATISTICS};
 use crate::trial::below_floor;
 use crate::{MAX_RECORDS, Question, Solved, solve};
 use std::collections::BTreeMap;
@@ -191,7 +191,7 @@ const LENGTHS: [&str; 2] = ["exact list", "longer list"];
 
 /// The numbers that a list can be refused by, but for those behind 15, in their order.
 fn numbers_of_judging() -> impl Iterator<Item = u64> {
-    (0..=NO_TIMES).chain([LEVELS])
+    (0..=NO_TIMES).chain([LEVELS, STATISTICS])
 }
 
 impl Tally {

@@ -1,7 +1,7 @@
 //! The program: `cantuvesh-reference CHOICE TRACE TABLE [WRITTEN]`.
 //!
-//! No tracing levels are expected: they are off. Prints the report, or "cannot read". A file named for the written trace is made only where the
-//! trace is accepted.
+//! No tracing levels are expected, and no statistics compared: they are off. Prints the report, or "cannot
+//! read". A file named for the written trace is made only where the trace is accepted.
 
 #![forbid(unsafe_code)]
 
@@ -42,7 +42,7 @@ fn main() -> ExitCode {
     let answer = judge(Inputs {
         trace: &trace,
         latencies: &latencies,
-        asked: Asked::with_levels_off(choice),
+        asked: Asked::choice_alone(choice),
         times: &mut times,
         wanted: name.is_some(),
         room: &mut room,

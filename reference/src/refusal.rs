@@ -1,4 +1,4 @@
-//! Document 01's "Numbers a caller gets back", with 17, 18, 22 and the column of document 02.
+//! Document 01's "Numbers a caller gets back", with 17, 18, 19, 22 and the column of document 02.
 
 pub const ASKED: u64 = 1;
 pub const LENGTH: u64 = 2;
@@ -18,6 +18,7 @@ pub const NO_TIMES: u64 = 15;
 pub const ROOM: u64 = 16;
 pub const LEVELS: u64 = 17;
 pub const SHARED: u64 = 18;
+pub const STATISTICS: u64 = 19;
 pub const NO_RECORD: u64 = 22;
 
 /// A refusal with its line and its column, both counted from 1, 0 for none.

@@ -3,7 +3,7 @@
 use crate::field;
 use crate::form::write_time;
 use crate::levels::Levels;
-use crate::line::{self, Line, Role};
+use crate::line::{self, Line, Role, Subject};
 use crate::refusal::{BYTES, ORDER, RECORDS, Refusal};
 use crate::{Choice, MAX_BYTES, MAX_RECORDS, PROCESSORS};
 use std::ops::Range;
@@ -20,6 +20,8 @@ pub struct Record {
     pub role: Role,
     /// The tracing levels that it tells, if it is a mark that counts.
     pub levels: Option<Levels>,
+    /// What it is to the statistics.
+    pub subject: Subject,
 }
 
 /// The listed records in file order, and how many lines were passed over.
@@ -49,7 +51,7 @@ pub fn lines(trace: &[u8], choice: Choice) -> Result<Listing, Refusal> {
         let read = without_end.and_then(|line| line::read(line, choice));
         match read.map_err(|fault| fault.in_line(number))? {
             Line::Passed => passed += 1,
-            Line::Listed(line::Record { processor, time, stamp, role, levels }) => {
+            Line::Listed(line::Record { processor, time, stamp, role, levels, subject }) => {
                 if last[processor].is_some_and(|last| time < last) {
                     return Err(refused(ORDER));
                 }
@@ -58,7 +60,7 @@ pub fn lines(trace: &[u8], choice: Choice) -> Result<Listing, Refusal> {
                 }
                 last[processor] = Some(time);
                 let stamp = start + stamp.start..start + stamp.end;
-                records.push(Record { line: number, processor, time, stamp, role, levels });
+                records.push(Record { line: number, processor, time, stamp, role, levels, subject });
             }
         }
         start += text.len();

@@ -5,8 +5,8 @@ use crate::deciding::{self, deciding};
 use crate::generator::Case;
 use crate::generator::stroke::{self, LONGEST_START};
 use crate::lent::{Lent, pattern};
-use crate::line::Role;
-use crate::{Answer, Choice, Inputs, form, message, trace};
+use crate::line::{Role, Subject};
+use crate::{Answer, Choice, Inputs, form, message, refusal, trace};
 use std::collections::BTreeMap;
 use std::fmt;
 
@@ -88,13 +88,26 @@ fn is_mostly_far_from_end(trace: &[u8]) -> bool {
     2 * (1 + ends(&trace[..last_start])) > ends(trace)
 }
 
+/// The numbers that judging gives are below this. One of them it never gives.
+const NUMBERS: usize = refusal::STATISTICS as usize + 1;
+const OF_MERGING: usize = refusal::SHARED as usize;
+
+/// Whether a trace has statistics that are compared where that is asked for.
+pub fn has_statistics(trace: &[u8]) -> bool {
+    let tells =
+        |record: &trace::Record| matches!(&record.subject, Subject::Told(_, pairs) if !pairs.is_empty());
+    trace::read(trace, Choice::Lenient).is_ok_and(|listing| listing.records.iter().any(tells))
+}
+
 /// How often each number and each verdict came up, and how often each kind of trace.
 #[derive(Clone, Debug, Default, PartialEq, Eq)]
 pub struct Tally {
-    pub numbers: [u64; 18],
+    pub numbers: [u64; NUMBERS],
     pub verdicts: [u64; 4],
     /// Accepted traces with listed records of which levels were expected.
     pub levels_met: u64,
+    /// Accepted traces with statistics that were compared.
+    pub statistics_met: u64,
     /// Accepted traces with a message that was begun, or that finished later.
     pub nonblocking: u64,
     /// Accepted traces with a receive that took fewer bytes than were sent.
@@ -117,6 +130,8 @@ impl Tally {
         self.numbers[answer.number as usize] += 1;
         self.verdicts[answer.verdict as usize] += 1;
         self.levels_met += u64::from(answer.listed > 0 && case.asked.levels == 1);
+        let compared = answer.number == 0 && case.asked.statistics == 1;
+        self.statistics_met += u64::from(compared && has_statistics(&case.trace));
         let blocking = |events: (i64, i64)| matches!(events, (-21, -51 | -52));
         let all_block = |case: &Case| events_of_messages(&case.trace).into_iter().all(blocking);
         self.nonblocking += u64::from(answer.matched > 0 && !all_block(case));
@@ -129,6 +144,11 @@ impl Tally {
         *self.kinds.entry(case.kind).or_default() += 1;
     }
 
+    /// The numbers that judging gives, and how often each came up.
+    fn numbers(&self) -> impl Iterator<Item = (usize, u64)> {
+        self.numbers.iter().copied().enumerate().filter(|&(number, _)| number != OF_MERGING)
+    }
+
     /// All that a column can mean, and how often it did.
     fn columns(&self) -> impl Iterator<Item = (String, u64)> {
         deciding::all().into_iter().map(|meant| {
@@ -139,13 +159,14 @@ impl Tally {
 
     /// What came up less often than a run of 200,000 cases must show.
     pub fn too_seldom(&self) -> Vec<String> {
-        let numbers = self.numbers.iter().enumerate().map(|(number, &times)| {
+        let numbers = self.numbers().map(|(number, times)| {
             let floor = if matches!(number, 4 | 12) { 100 } else { 500 };
             (format!("number {number}"), times, floor)
         });
         let verdicts = (1..=3).map(|verdict| (format!("verdict {verdict}"), self.verdicts[verdict], 500));
         let kinds_of_accepted = [
             ("levels met", self.levels_met),
+            ("statistics met", self.statistics_met),
             ("nonblocking messages", self.nonblocking),
             ("short receives", self.short_receives),
         ]
@@ -171,13 +192,14 @@ impl fmt::Display for Tally {
         for (kind, times) in &self.kinds {
             writeln!(out, "{kind:<15}{times:>8}")?;
         }
-        for (number, times) in self.numbers.iter().enumerate() {
+        for (number, times) in self.numbers() {
             writeln!(out, "number {number:<8}{times:>8}")?;
         }
         for verdict in 1..=3 {
             writeln!(out, "verdict {verdict:<7}{:>8}", self.verdicts[verdict])?;
         }
         writeln!(out, "levels met     {:>8}", self.levels_met)?;
+        writeln!(out, "statistics met {:>8}", self.statistics_met)?;
         writeln!(out, "nonblocking    {:>8}", self.nonblocking)?;
         writeln!(out, "short receives {:>8}", self.short_receives)?;
         writeln!(out, "quick          {:>8}", self.quick)?;

@@ -350,7 +350,7 @@ fn other_refusals_have_no_column() {
     assert_eq!(refused(trace(&[receive, short_send]), STRICT), (14, 1, 0));
     let levels = Levels { picl: 1, user: 1, trace: 1 };
     assert_eq!(refused(trace(&["0 0 T 0 0 0"]), Asked::expecting(1, levels)), (17, 1, 0));
-    assert_eq!(refused("x", Asked::with_levels_off(3)), (1, 0, 0));
+    assert_eq!(refused("x", Asked::choice_alone(3)), (1, 0, 0));
     assert_eq!(refused(vec![b'x'; MAX_BYTES + 1], STRICT), (4, 0, 0));
     assert_eq!(judged(TRACE_B, &flat_table(1), STRICT).0, Answer { number: 15, ..Answer::default() });
     let number_of = |latencies: &[u32], trace: &[u8]| {
@@ -451,7 +451,7 @@ fn the_report_has_the_column_always() {
     assert_eq!(said("-3 0 0.000000 0 0 2 2 1 x\n", STRICT), "refused 5 line 1 column 25\n");
     assert_eq!(said("0 0 0.000000 0 0 0\n0 0 1 0 0 0\n", STRICT), "refused 6 line 2 column 5\n");
     assert_eq!(said("-4 -52 0.000000 1 0 3 2 8 1 0\n", STRICT), "refused 13 line 1 column 0\n");
-    assert_eq!(said("", Asked::with_levels_off(0)), "refused 1 line 0 column 0\n");
+    assert_eq!(said("", Asked::choice_alone(0)), "refused 1 line 0 column 0\n");
     // The request's own: a line with sixteen data, the fifth of them bad.
     let sixteen = "0 0 0.000000 0 0 16 2 1 2 3 4 x 6 7 8 9 10 11 12 13 14 15 16\n";
     let long = "0 0 0.000000 0 0 0\n".repeat(811) + sixteen;

@@ -95,7 +95,7 @@ fn the_merged_trace_reads_as_both_did() {
         let reading = Choice::numbered(choice).unwrap();
         let [ours, theirs] = [&first, &second].map(|own| trace::read(own, reading).unwrap());
         let (listed, passed) = (ours.records.len() + theirs.records.len(), ours.passed + theirs.passed);
-        let (answer, _) = judged(&text, &flat_table(0), Asked::with_levels_off(choice));
+        let (answer, _) = judged(&text, &flat_table(0), Asked::choice_alone(choice));
         numbers[answer.number as usize] += 1;
         let too_long = text.len() > MAX_BYTES;
         let too_many = listed > MAX_RECORDS && !too_long;

@@ -216,7 +216,7 @@ fn the_order_of_1_to_4_with_the_switch() {
 #[test]
 fn numbers_that_are_off_are_not_looked_at() {
     for (picl, user, trace) in [(0, 0, 0), (1, 1, 1), (i64::MIN, i64::MAX, -7), (1 << 32, 5, 1_000_000_000)] {
-        let asked = Asked { choice: 1, levels: 0, picl, user, trace };
+        let asked = Asked { picl, user, trace, ..STRICT };
         assert_eq!(judged(TRACE_A, &flat_table(5), asked), judged(TRACE_A, &flat_table(5), STRICT));
         assert_eq!(number(self::trace(&[GOOD, BAD, "-3 5 T 1 0 0"]), asked), (0, 0));
     }

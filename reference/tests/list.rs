@@ -242,7 +242,7 @@ fn what_judging_refuses() {
     // The trace, the table and what is asked; number, line and column.
     type Case<'a> = (&'a [u8], &'a [u32], Asked, [u64; 3]);
     let cases: [Case; 17] = [
-        (b"x", &[], Asked::with_levels_off(3), [1, 0, 0]),
+        (b"x", &[], Asked::choice_alone(3), [1, 0, 0]),
         (b"x", &[], Asked { levels: 2, ..STRICT }, [1, 0, 0]),
         (b"x", &none[1..], STRICT, [2, 0, 0]),
         (b"x", &[MAX_LATENCY + 1; LATENCIES], STRICT, [3, 0, 0]),

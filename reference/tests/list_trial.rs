@@ -9,7 +9,8 @@ use reference::line::Role;
 use reference::list::{self, Ends, Filled};
 use reference::list_trial::{Tally, Trial};
 use reference::refusal::{
-    ASKED, BYTES, FORM, LATENCY, LENGTH, LEVELS, LONG_RECEIVE, NO_RECORD, NO_TIMES, RECORDS, ROOM, UNMATCHED,
+    ASKED, BYTES, FORM, LATENCY, LENGTH, LEVELS, LONG_RECEIVE, NO_RECORD, NO_TIMES, RECORDS, ROOM,
+    STATISTICS, UNMATCHED,
 };
 use reference::{MAX_RECORDS, Question, Solved, solve};
 use std::collections::BTreeSet;
@@ -184,7 +185,7 @@ fn other_answers_are_found() {
 /// Refusals that are not given, or given by another number.
 #[test]
 fn other_refusals_are_found() {
-    let all = (ASKED..=NO_TIMES).chain([LEVELS, ROOM]);
+    let all = (ASKED..=NO_TIMES).chain([LEVELS, STATISTICS, ROOM]);
     for number in all {
         let wrong = |answer: Filled| match answer.number == number {
             true => Filled::default(),
@@ -279,7 +280,7 @@ fn the_generator_reaches_everything() {
         assert_eq!(inquiry, Inquiry::from_seed(seed));
         tally.count(&inquiry, &trial.run(&inquiry, list::messages, list::chain).0);
     }
-    let of_judging: BTreeSet<u64> = (0..=NO_TIMES).chain([ROOM, LEVELS]).collect();
+    let of_judging: BTreeSet<u64> = (0..=NO_TIMES).chain([ROOM, LEVELS, STATISTICS]).collect();
     assert_eq!(tally.messages.keys().copied().collect::<BTreeSet<_>>(), of_judging, "{tally}");
     let of_chains = of_judging.into_iter().chain([NO_RECORD]).collect();
     assert_eq!(tally.chains.keys().copied().collect::<BTreeSet<_>>(), of_chains, "{tally}");
@@ -307,7 +308,8 @@ fn nothing_comes_up_too_seldom() {
 #[test]
 fn too_few_inquiries_are_told() {
     let numbers = |behind: &[u64]| {
-        (0..=NO_TIMES).chain([LEVELS]).chain(behind.iter().copied()).map(|number| (number, 10_000)).collect()
+        let of_judging = (0..=NO_TIMES).chain([LEVELS, STATISTICS]);
+        of_judging.chain(behind.iter().copied()).map(|number| (number, 10_000)).collect()
     };
     let messages = numbers(&[ROOM]);
     let chains = numbers(&[NO_RECORD, ROOM]);

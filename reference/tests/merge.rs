@@ -137,7 +137,7 @@ fn only_the_heads_are_compared() {
 #[test]
 fn bytes_stay_as_they_are() {
     let [one, other] = [&b"-5 0 0.000001 0 0 1 \xff\x00 \r\n"[..], b"0 0 0.000003 0 0 1 5 -0.000001\n"];
-    let between = b"-101 -1 0.000002 0 9 2 \"%d%lf\" 0  x\t\n";
+    let between = b"-104 -1 0.000002 0 9 2 \"%d%lf\" 0  x\t\n";
     let (answer, text) = into_room(&[one, other].concat(), between, LENIENT, 200);
     assert_eq!((answer.number, text), (0, [one, between, other].concat()));
 }
@@ -291,7 +291,7 @@ fn a_processor_with_listed_records_in_both() {
 #[test]
 fn lines_passed_over_share_no_processor() {
     let listed = trace(&["0 0 T 7 0 0"]);
-    for passed in ["-5 0 T 7 0 0", "-3 -1 T 7 0 0", "-101 -1 T 7 0 1 x", "0 -905 T 7 0 0"] {
+    for passed in ["-5 0 T 7 0 0", "-3 -1 T 7 0 0", "-104 -1 T 7 0 1 x", "0 -905 T 7 0 0"] {
         let passed = trace(&[passed]);
         assert_eq!(refused(&passed, &passed, LENIENT), ACCEPTED, "{passed}");
         assert_eq!(refused(&listed, &passed, LENIENT), ACCEPTED, "{passed}");
@@ -300,6 +300,10 @@ fn lines_passed_over_share_no_processor() {
         assert_eq!(refused(&both, &passed, LENIENT), ACCEPTED, "{passed}");
         assert_eq!(refused(&both, &listed, LENIENT), (18, 0, 0, 0), "{passed}");
     }
+    // Statistics are listed, whatever their event is.
+    let statistics = trace(&["-102 -1001 T 7 0 1 \"%d%d\" 0 5"]);
+    assert_eq!(refused(&statistics, &listed, STRICT), (18, 0, 0, 0));
+    assert_eq!(refused(&statistics, trace(&["0 0 T 8 0 0"]), STRICT), ACCEPTED);
     // The processor that a message names is none of the record.
     let send = trace(&["-3 -21 T 0 0 3 2 8 1 7"]);
     assert_eq!(refused(&send, &listed, STRICT), ACCEPTED);

@@ -265,7 +265,7 @@ fn judging(numbers: &[u64]) -> impl Fn(&[u8], &[u8], u32, &mut [u8]) -> Merged {
         let again = judge(Inputs {
             trace: &tried[..answer.written as usize],
             latencies: &flat_table(5),
-            asked: Asked::with_levels_off(choice),
+            asked: Asked::choice_alone(choice),
             times: &mut vec![0; MAX_RECORDS],
             wanted: false,
             room: &mut [],

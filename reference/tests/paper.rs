@@ -78,17 +78,17 @@ fn p8_p9_times_about_zero() {
 
 #[test]
 fn p10_choice_3() {
-    assert_eq!(number(TRACE_A, Asked::with_levels_off(3)), (1, 0));
+    assert_eq!(number(TRACE_A, Asked::choice_alone(3)), (1, 0));
 }
 
 #[test]
 fn table_20() {
-    assert_eq!(refused(TABLE_20, STRICT), (7, 25, 1));
+    assert_eq!(refused(TABLE_20, STRICT), (13, 13, 0));
     assert_eq!(refused(TABLE_20, LENIENT), (13, 13, 0));
     let (answer, _) = judged(first_lines(TABLE_20, 12), &flat_table(0), STRICT);
     assert_eq!((answer.verdict, answer.listed), (3, 12));
     let said = |asked| report(&judged(TABLE_20, &flat_table(0), asked).0);
-    assert_eq!(said(STRICT), "refused 7 line 25 column 1\n");
+    assert_eq!(said(STRICT), "refused 13 line 13 column 0\n");
     assert_eq!(said(LENIENT), "refused 13 line 13 column 0\n");
 }
 

@@ -221,7 +221,7 @@ fn the_order_of_1_to_4() {
     let long = vec![b'x'; 65_537];
     let number_of = |choice, latencies: &[u32], times: usize, trace: &[u8]| {
         let mut times = vec![0; times];
-        let asked = Asked::with_levels_off(choice);
+        let asked = Asked::choice_alone(choice);
         judge(Inputs { trace, latencies, asked, times: &mut times, wanted: true, room: &mut [] }).number
     };
     assert_eq!(number_of(0, &[], 0, &long), 1);

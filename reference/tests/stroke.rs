@@ -38,13 +38,14 @@ const SPACES: &[&str] = &[
 ];
 
 /// Parts of a line, and what can be wrong at each of them.
-const WANTED: [(&[&str], &[&str]); 9] = [
+const WANTED: [(&[&str], &[&str]); 10] = [
     (NUMBERS, &["slash", "colon", "minus", "missing", "extra minus", "leading zero"]),
     // A count of nine digits is no good one.
     (NUMBERS.split_last().unwrap().1, &["tenth digit"]),
     (NUMBERS, &["minus zero"]),
     (&["count"], &["digit", "extra digit"]),
     (&["descriptor"], &["digit", "extra digit", "minus", "slash", "colon"]),
+    (&["quoted descriptor"], &["other", "digit", "missing", "extra other"]),
     (POINTS, &["slash", "colon", "minus", "comma", "digit", "blank", "high", "missing", "extra point"]),
     (FRACTIONS, &["slash", "colon", "minus", "point", "blank", "high", "missing", "extra digit"]),
     (SPACES, &["digit", "minus", "blank", "high", "missing", "extra space", "extra minus"]),
@@ -68,7 +69,7 @@ struct Stroke {
 
 /// Every way to make good lines of these by one byte, at one of these places.
 fn strokes(lines: &[u8], places: impl Iterator<Item = usize>) -> Vec<Stroke> {
-    const DUE: &[u8] = b"0123456789.- \n";
+    const DUE: &[u8] = b"0123456789.- \n\"%dlf";
     let mut strokes = Vec::new();
     for place in places {
         let (before, behind) = lines.split_at(place);
@@ -107,7 +108,7 @@ impl Stroke {
         }
         let start = good[..place].iter().rposition(|&byte| byte == b' ').map_or(0, |space| space + 1);
         let field = good[start..].split(|byte| b" \n".contains(byte)).next()?;
-        let name = FIELDS[index.min(7)];
+        let name = if field.starts_with(b"\"") { "quoted descriptor" } else { FIELDS[index.min(7)] };
         // The digits of a number, or of a time's seconds.
         let first = start + usize::from(field.starts_with(b"-"));
         let digits = field.split(|&byte| byte == b'.').next()?.len() - (first - start);

@@ -5,7 +5,7 @@ mod common;
 use common::{found_among, found_in};
 use reference::generator::{Case, flat_table};
 use reference::line::Role;
-use reference::refusal::{LEVELS, LONG_RECEIVE, NO_TIMES, RECORDS, UNMATCHED};
+use reference::refusal::{LEVELS, LONG_RECEIVE, NO_TIMES, RECORDS, STATISTICS, UNMATCHED};
 use reference::trial::{Call, Tally, events_of_messages};
 use reference::{
     Answer, Asked, Choice, Inputs, MAX_RECORDS, PROCESSORS, clock, deciding, judge, message, trace,
@@ -335,7 +335,7 @@ fn by_lengths(
 ) -> impl Fn(Inputs) -> Answer {
     move |mut call| {
         let answer = tried(call.lent());
-        if (1..=RECORDS).contains(&answer.number) || answer.number == LEVELS {
+        if (1..=RECORDS).contains(&answer.number) || [LEVELS, STATISTICS].contains(&answer.number) {
             return answer;
         }
         let records = trace::read(call.trace, Choice::Lenient).unwrap().records;
@@ -578,12 +578,20 @@ fn nothing_comes_up_too_seldom() {
 /// A run with too few traces that are good, or good but for one byte, says so.
 #[test]
 fn too_few_good_or_nearly_good_traces_are_told() {
-    let often = Tally { numbers: [500; 18], verdicts: [500; 4], levels_met: 500, ..Tally::default() };
+    let often = Tally { numbers: [500; 20], verdicts: [500; 4], levels_met: 500, ..Tally::default() };
+    let often = Tally { statistics_met: 500, ..often };
     let enough =
         Tally { nonblocking: 500, short_receives: 500, quick: 20_000, one_byte_off: 20_000, ..often };
     let columns: BTreeMap<String, u64> = deciding::all().into_iter().map(|meant| (meant, 50)).collect();
     let enough = Tally { columns, ..enough };
     assert_eq!(enough.too_seldom(), [""; 0]);
+    let mut seldom_nineteen = enough.clone();
+    seldom_nineteen.numbers[19] = 499;
+    seldom_nineteen.statistics_met = 0;
+    assert_eq!(
+        seldom_nineteen.too_seldom(),
+        ["number 19 came up 499 times, 500 are asked", "statistics met came up 0 times, 500 are asked"]
+    );
     assert_eq!(
         Tally { quick: 19_999, one_byte_off: 0, ..enough.clone() }.too_seldom(),
         ["quick came up 19999 times, 20000 are asked", "one byte off came up 0 times, 20000 are asked"]
@@ -606,7 +614,7 @@ fn what_is_read_quickly_is_counted() {
     let counted = |lengths: &[usize]| {
         let lines = lengths.iter().map(|length| format!("{:x<length$}\n", "-5 0 0.000000 0 0 1 "));
         let trace = lines.collect::<String>().into_bytes();
-        let asked = Asked::with_levels_off(2);
+        let asked = Asked::choice_alone(2);
         let case = Case {
             trace,
             asked,
@@ -634,7 +642,9 @@ fn the_generator_reaches_everything() {
         assert_eq!(case, Case::from_seed(seed));
         tally.count(&case, &call.run(&case, judge));
     }
-    assert!(tally.numbers.iter().all(|&times| times > 0), "{tally}");
+    // 18 is of merging alone.
+    let never: Vec<usize> = (0..tally.numbers.len()).filter(|&number| tally.numbers[number] == 0).collect();
+    assert_eq!(never, [18], "{tally}");
     assert!(tally.verdicts.iter().all(|&times| times > 0), "{tally}");
     // Each column means one of what is counted.
     let known: u64 = deciding::all().iter().filter_map(|meant| tally.columns.get(meant)).sum();

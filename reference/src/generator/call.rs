@@ -11,6 +11,10 @@ pub fn wrong_choice(random: &mut Random) -> u32 {
     random.pick(&WRONG_CHOICES)
 }
 
+fn wrong_switch(random: &mut Random) -> u32 {
+    random.pick(&[2, 2, 3, u32::MAX, 1 << 16, 256, 257, 0x8000_0000, 0x8000_0001])
+}
+
 /// Room for what a case writes. A trace that is refused anyway has some room, too, to be left alone.
 pub fn room(case: &Case, random: &mut Random) -> usize {
     let answer = case.unhindered();
@@ -37,13 +41,15 @@ pub fn room_about(needed: usize, other: usize, random: &mut Random) -> usize {
 pub fn spoil(case: &mut Case, random: &mut Random) {
     let often = if random.chance(10) { 20 } else { 1 };
     if random.chance(often) {
-        let which = random.below(5);
+        let which = random.below(7);
         if which < 3 {
             case.asked.choice = wrong_choice(random);
         }
-        if which > 1 {
-            case.asked.levels =
-                random.pick(&[2, 2, 3, u32::MAX, 1 << 16, 256, 257, 0x8000_0000, 0x8000_0001]);
+        if (2..5).contains(&which) {
+            case.asked.levels = wrong_switch(random);
+        }
+        if which > 3 {
+            case.asked.statistics = wrong_switch(random);
         }
     }
     if random.chance(often) {

@@ -88,6 +88,9 @@ pub fn in_text(random: &mut Random) -> Draft {
     Draft { kind: "wrong text", trace, latencies: table }
 }
 
+/// Descriptors, and what is nearly one.
+const DESCRIPTORS: [&[u8]; 8] = [b"2", b"5", b"3", b"02", b"\"%d\"", b"\"%d%d\"", b"\"%d%lf\"", b"\"%d%ld\""];
+
 fn spoil_line(random: &mut Random, line: &mut Vec<u8>) {
     const BYTES: &[u8] = b"0123456789-. \n\r\tx\"+e\x00\xff/:";
     if line.is_empty() {
@@ -114,7 +117,7 @@ fn spoil_line(random: &mut Random, line: &mut Vec<u8>) {
             ];
             fields[5] = random.pick(&COUNTS).to_vec();
         }
-        8 if fields.len() > 6 => fields[6] = random.pick(&[&b"2"[..], b"5", b"3", b"02", b"\"%d\""]).to_vec(),
+        8 if fields.len() > 6 => fields[6] = random.pick(&DESCRIPTORS).to_vec(),
         9 if fields.len() > 2 => {
             fields[2] =
                 random.pick(&[&b"-0.000000"[..], b"00.000001", b"1.00000", b"1", b"-.000001"]).to_vec();

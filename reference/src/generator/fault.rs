@@ -2,8 +2,10 @@
 //! which of its faults decided.
 
 use super::random::Random;
-use super::record::{Data, RECEIVES, Record, SENDS, any_local, any_time, any_unlisted, good_lines_behind};
-use super::record::{any_whole, joined};
+use super::record::{
+    Data, RECEIVES, Record, SENDS, STATISTICS, any_local, any_pairs, any_time, any_unlisted,
+};
+use super::record::{any_whole, good_lines_behind, joined};
 use super::{Draft, flat_table};
 
 /// A field as text.
@@ -29,8 +31,9 @@ pub fn lines(random: &mut Random) -> Draft {
 /// The fields of a line that is bad, or could be.
 fn fields(random: &mut Random) -> Vec<Field> {
     let record = match random.below(20) {
-        0..6 => message(random),
-        6..9 => any_unlisted(random),
+        0..5 => message(random),
+        5..7 => any_unlisted(random),
+        7..16 => statistic(random),
         _ => local(random),
     };
     let mut fields: Vec<Field> = record.text().split(|&byte| byte == b' ').map(<[u8]>::to_vec).collect();
@@ -85,6 +88,18 @@ fn local(random: &mut Random) -> Record {
     Record { data, ..Record::local(random.pick(&[-2, -3, -4, 0]), event, time, processor) }
 }
 
+/// A statistics record, with sixteen pairs more often than not.
+fn statistic(random: &mut Random) -> Record {
+    let record_type = random.pick(&STATISTICS);
+    let count = if random.chance(90) { 16 } else { random.place(17) };
+    let event = random.pick(&[-1, 0, -62, -999_999_999]);
+    let (time, processor) = (any_time(random), random.between(0, 9));
+    Record {
+        data: any_pairs(random, record_type, count),
+        ..Record::local(record_type, event, time, processor)
+    }
+}
+
 /// A send or a receive, its data those of one or not: in their number, their form, the length, the
 /// processor, or in several of these.
 fn message(random: &mut Random) -> Record {
@@ -111,13 +126,13 @@ fn message(random: &mut Random) -> Record {
 fn spoiled(random: &mut Random, place: usize, good: &[u8]) -> Field {
     const BAD: [&[u8]; 10] = [b"", b"-", b"-0", b"00", b"x", b"+1", b"1000000000", b"1.0", b"\t", b"\xff\r"];
     const OTHERS: [&[&[u8]]; 7] = [
-        &[b"-5", b"1", b"-101"],
+        &[b"-5", b"1", b"-101", b"-102", b"-104"],
         &[b"-1", b"-62", b"-80", b"-905"],
         &[b"-0.000000", b"1.00000", b"1"],
         &[b"64", b"-1", b"999999999"],
         &[b"1", b"-1"],
         &[b"0", b"1", b"15", b"17", b"999", b"1000", b"-1"],
-        &[b"2", b"5", b"3", b"02"],
+        &[b"2", b"5", b"3", b"02", b"\"%d%d\"", b"\"%d%lf\"", b"\"%d%f\"", b"%d%d"],
     ];
     match random.below(3) {
         0 => random.pick(&BAD).to_vec(),

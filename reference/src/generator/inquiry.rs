@@ -4,7 +4,7 @@ use super::random::Random;
 use super::record::{Record, trace_of};
 use super::shape::{any_chain, any_ring, chain, many_types};
 use super::workload::ROW;
-use super::{Case, Draft, call, damage, draft, flat_table, level, web};
+use super::{Case, Draft, call, damage, draft, flat_table, level, statistic, web};
 use crate::chain::{IN_ORDER, Moved};
 use crate::list::ends;
 use crate::{Asked, MAX_RECORDS, Question, Solved, solve};
@@ -44,6 +44,7 @@ impl Inquiry {
         let Draft { kind, trace, latencies } = any_draft(&mut random);
         let choice = if random.chance(20) { 1 } else { 2 };
         let (asked, trace) = level::asked(&mut random, choice, trace);
+        let (asked, trace) = statistic::asked(&mut random, asked, trace);
         let offset = random.below(16) as usize;
         // No times are lent, and nothing is written.
         let times = MAX_RECORDS;

@@ -92,7 +92,7 @@ fn place_of(slot: usize, own: &[&trace::Record]) -> Option<(usize, i64)> {
 }
 
 /// The lines, and behind as many of them as its place says what is added there.
-fn put_together(lines: &[&[u8]], added: &[Vec<Record>]) -> Vec<u8> {
+pub(super) fn put_together(lines: &[&[u8]], added: &[Vec<Record>]) -> Vec<u8> {
     let mut trace = Vec::new();
     for (place, records) in added.iter().enumerate() {
         for record in records {

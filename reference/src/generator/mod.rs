@@ -4,7 +4,8 @@
 //! else has a known shape, [`nonblocking`] gives messages of both to calls that do not wait, [`damage`]
 //! spoils them, [`stroke`] by one byte alone, [`fault`] spoils chosen fields of one line, [`near`] and
 //! [`soup`] put lines together from good and bad parts, [`limit`] goes to the ends of every size and
-//! number, [`level`] expects tracing levels and marks them, and [`call`] is the rest of a call. [`pair`]
+//! number, [`level`] expects tracing levels and marks them, [`statistic`] tells what the records before say,
+//! or nearly that, and [`call`] is the rest of a call. [`pair`]
 //! makes two traces of them, to be merged, and [`inquiry`] asks for messages and chains, often of a [`web`]
 //! of messages in which times have many causes. The benchmark's traces are in [`workload`], and stay as
 //! they are.
@@ -23,6 +24,7 @@ pub mod record;
 mod run;
 pub mod shape;
 mod soup;
+mod statistic;
 pub mod stroke;
 mod web;
 pub mod workload;
@@ -59,6 +61,7 @@ impl Case {
         let Draft { kind, trace, latencies } = draft(&mut random);
         let choice = if random.chance(35) { 1 } else { 2 };
         let (asked, trace) = level::asked(&mut random, choice, trace);
+        let (asked, trace) = statistic::asked(&mut random, asked, trace);
         let mut case = Case {
             seed,
             kind,
@@ -99,10 +102,10 @@ fn draft(random: &mut Random) -> Draft {
         280..335 => shape::any_ring(random),
         335..420 => damage::in_messages(random),
         420..475 => damage::in_text(random),
-        475..775 => stroke::trace(random),
+        475..705 => stroke::trace(random),
         775..840 => near::lines(random),
-        840..920 => soup::lines(random),
-        170..210 | 920..980 => fault::lines(random),
+        840..910 => soup::lines(random),
+        170..210 | 705..775 | 910..980 => fault::lines(random),
         980..988 => limit::records(random),
         988..996 => limit::bytes(random),
         _ => soup::noise(random),

@@ -6,7 +6,7 @@
 use super::call::{room_about, wrong_choice};
 use super::limit::fill;
 use super::random::Random;
-use super::record::{Record, any_unlisted, trace_of};
+use super::record::{Record, STATISTICS, any_unlisted, trace_of};
 use super::run::any_run;
 use super::{Draft, draft, flat_table, near};
 use crate::line::{self, Line, Standing, standing};
@@ -119,7 +119,8 @@ fn renumbered(mut records: Vec<Record>, numbers: &[i64]) -> Vec<Record> {
 }
 
 fn is_listed(record: &Record) -> bool {
-    matches!(record.record_type, -4..=-2 | 0) && standing(record.event) == Standing::Listed
+    let of_event = matches!(record.record_type, -4..=-2 | 0) && standing(record.event) == Standing::Listed;
+    of_event || STATISTICS.contains(&record.record_type)
 }
 
 /// Times from the lowest to the highest, most of them next to another. As text they stand in another order,

@@ -3,6 +3,7 @@
 use super::random::Random;
 use crate::MAX_TIME;
 use crate::form::write_time;
+use crate::line::Told;
 
 /// The events whose entry is a send.
 pub const SENDS: [i64; 2] = [-21, -27];
@@ -26,6 +27,8 @@ pub enum Data {
     None,
     Wholes(Vec<i64>),
     Times(Vec<i64>),
+    /// Of a statistics record: events, and what is told of each.
+    Pairs(Vec<(i64, i64)>),
     /// The whole end of an unlisted line: a data count and the bytes after it.
     Free(i64, Vec<u8>),
 }
@@ -82,6 +85,17 @@ impl Record {
                     write_time(value, &mut text);
                 }
             }
+            Data::Pairs(pairs) => {
+                let told = Told::by(self.record_type).unwrap_or(Told::Counts);
+                text.extend(format!("{} {}", pairs.len(), told.descriptor()).bytes());
+                for &(event, number) in pairs {
+                    text.extend(format!(" {event} ").bytes());
+                    match told {
+                        Told::Times => write_time(number, &mut text),
+                        Told::Counts | Told::Volumes => text.extend(number.to_string().bytes()),
+                    }
+                }
+            }
             Data::Free(count, end) => {
                 text.extend(count.to_string().bytes());
                 text.extend(end);
@@ -113,8 +127,36 @@ pub fn good_lines_behind(random: &mut Random) -> Vec<Vec<u8>> {
     (0..count).map(|place| Record::local(0, place, place, 10).text()).collect()
 }
 
-/// A record of one of the listed events that is no message.
+/// The record types of statistics.
+pub const STATISTICS: [i64; 3] = [-101, -102, -103];
+
+/// A statistics record whose event field is not -1, so that nothing that it tells is compared.
+pub fn any_uncompared(random: &mut Random, time: i64, processor: i64) -> Record {
+    let record_type = random.pick(&STATISTICS);
+    let whole = any_whole(random);
+    let event = random.pick(&[0, 1, -2, -10, -11, -21, -52, -62, -101, -1001, whole.min(-2)]);
+    let count = random.pick(&[0, 1, 1, 2, 3, 16]);
+    Record {
+        data: any_pairs(random, record_type, count),
+        ..Record::local(record_type, event, time, processor)
+    }
+}
+
+/// So many pairs of any numbers.
+pub fn any_pairs(random: &mut Random, record_type: i64, count: usize) -> Data {
+    let pair = |random: &mut Random| {
+        let event = any_whole(random);
+        let number = if record_type == -101 { any_time(random) } else { any_whole(random) };
+        (event, number)
+    };
+    if count == 0 { Data::None } else { Data::Pairs((0..count).map(|_| pair(random)).collect()) }
+}
+
+/// A record of one of the listed events that is no message, or seldom statistics.
 pub fn any_local(random: &mut Random, time: i64, processor: i64) -> Record {
+    if random.chance(3) {
+        return any_uncompared(random, time, processor);
+    }
     const OTHER_EVENTS: [i64; 31] = [
         0, 1, 7, 50, 123_456, 999_999_999, -11, -12, -201, -202, -221, -251, -401, -402, -501, -502, -503,
         -601, -602, -603, -901, -902, -903, -904, -911, -912, -913, -914, 0, 1, 2,
@@ -179,7 +221,7 @@ pub fn any_unlisted(random: &mut Random) -> Record {
     let time = any_time(random);
     let processor = random.pick(&[0, 1, 5, 63, 64, -1, 32_767, 999_999_999, -999_999_999]);
     let mut record = if random.chance(50) {
-        let record_type = random.pick(&[-1, -5, 1, 2, -101, -102, -103, 999_999_999, -999_999_999]);
+        let record_type = random.pick(&[-1, -5, 1, 2, -100, -104, -201, 999_999_999, -999_999_999]);
         Record::local(record_type, random.between(-1000, 10), time, processor)
     } else {
         let event = random.pick(&[

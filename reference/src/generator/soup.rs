@@ -5,7 +5,10 @@ use super::record::{MESSAGE_EVENTS, RECEIVES, SENDS, good_lines_behind, joined};
 use super::{Draft, flat_table, table};
 
 const RECORD_TYPES: [&str; 4] = ["-2", "-3", "-4", "0"];
-const UNLISTED_TYPES: [&str; 9] = ["-5", "-1", "1", "2", "-101", "10", "-999999999", "999999999", "-20"];
+/// Their data are others.
+const STATISTICS: [&str; 3] = ["-101", "-102", "-103"];
+const UNLISTED_TYPES: [&str; 10] =
+    ["-5", "-1", "1", "2", "-100", "-104", "10", "-999999999", "999999999", "-20"];
 
 /// The two sides of every border in the table of events.
 const EVENTS: [i64; 82] = [
@@ -67,9 +70,10 @@ pub fn lines(random: &mut Random) -> Draft {
 }
 
 fn line(random: &mut Random, wrong: u64, clock: &mut i64) -> Vec<u8> {
-    let record_type = match random.chance(10) {
-        true => random.pick(&UNLISTED_TYPES),
-        false => random.pick(&RECORD_TYPES),
+    let record_type = match random.below(20) {
+        0 | 1 => random.pick(&UNLISTED_TYPES),
+        2 => random.pick(&STATISTICS),
+        _ => random.pick(&RECORD_TYPES),
     };
     let event = match random.below(10) {
         0 => random.between(-1010, -1),
@@ -151,7 +155,9 @@ fn data(random: &mut Random, wrong: u64, message: bool) -> Vec<String> {
         return fields;
     }
     let descriptor = match random.chance(2 * wrong) {
-        true => random.pick(&["0", "1", "3", "4", "6", "02", "-2", "", "\"%d\"", "2.0", "25", "52"]),
+        true => {
+            random.pick(&["0", "1", "3", "4", "6", "02", "-2", "", "\"%d\"", "\"%d%d\"", "2.0", "25", "52"])
+        }
         false if random.chance(if message { 95 } else { 60 }) => "2",
         false => "5",
     };

@@ -5,7 +5,7 @@
 //! or at either end of the trace, where such a reader may have to stop.
 
 use super::random::Random;
-use super::record::{Data, RECEIVES, Record, SENDS, any_data, any_local, any_time, any_unlisted};
+use super::record::{Data, RECEIVES, Record, SENDS, STATISTICS, any_data, any_local, any_time, any_unlisted};
 use super::run::any_run;
 use super::{Draft, table};
 use crate::{MAX_TIME, PROCESSORS, form};
@@ -22,6 +22,9 @@ pub const LONGEST_START: usize = 5 * "-999999999 ".len() + "-999999999.999999 ".
 const LIKE_DIGIT: &[u8] = b"//::-. \xb0\xb9\xff";
 const LIKE_POINT: &[u8] = b",,-/: 0\t\0\xae";
 const LIKE_SPACE: &[u8] = b"\t\r\n\0-.019\xa0";
+
+/// Those that might be taken for one of a quoted descriptor.
+const LIKE_QUOTED: &[u8] = b"\"'%%dlfDLFsiu\xa2";
 
 /// Such bytes for any place.
 const ODD: &[u8] = b"-./:,+ \t\r\n\0x\x80\xa0\xad\xae\xb0\xb9\xff";
@@ -95,6 +98,7 @@ fn wide_run(random: &mut Random) -> Vec<Record> {
                 let processor = random.between(0, 63);
                 records.push(any_local(random, time, processor));
             }
+            3 if random.chance(70) => records.push(statistic(random, time)),
             3 | 4 if unlisted => records.push(wide_unlisted(random)),
             _ => records.push(user_event(random, time)),
         }
@@ -121,6 +125,18 @@ fn user_event(random: &mut Random, time: i64) -> Record {
     Record { data, ..Record::local(random.pick(&[-2, -3, -4, 0]), event, time, random.between(0, 63)) }
 }
 
+/// Statistics of events of any width, which are not compared.
+fn statistic(random: &mut Random, time: i64) -> Record {
+    let record_type = random.pick(&STATISTICS);
+    let pair = |random: &mut Random| {
+        let number = if record_type == -101 { time_about_zero_or_any(random) } else { wide(random) };
+        (wide(random), number)
+    };
+    let data = Data::Pairs((0..random.between(1, 4)).map(|_| pair(random)).collect());
+    let event = random.pick(&[0, -2, -11, -62, -999_999_999]);
+    Record { data, ..Record::local(record_type, event, time, random.between(0, 63)) }
+}
+
 /// Zero and the time before it are one byte off the zero that is bad.
 fn time_about_zero_or_any(random: &mut Random) -> i64 {
     let any = any_time(random);
@@ -141,7 +157,7 @@ fn message(random: &mut Random, time: i64) -> [Record; 2] {
 /// processor and the process are short.
 fn wide_unlisted(random: &mut Random) -> Record {
     let record_type = match wide(random) {
-        -4..=-2 => -5,
+        -4..=-2 | -103..=-101 => -5,
         unlisted => unlisted,
     };
     Record {
@@ -201,6 +217,12 @@ fn strike(random: &mut Random, line: &mut Vec<u8>) {
     let time = if random.chance(25) { times[0] } else { random.pick(&times) };
     let point = time.end - 7;
     let (whole, any) = (random.pick(&wholes), random.pick(&fields));
+    let quoted = fields.get(6).copied().filter(|field| line[field.start] == b'"');
+    if let Some(quoted) = quoted
+        && random.chance(25)
+    {
+        return in_quoted(random, line, quoted);
+    }
     match random.below(32) {
         0..5 => at_point(random, line, point),
         5..9 => in_fraction(random, line, point),
@@ -291,6 +313,17 @@ fn in_descriptor(random: &mut Random, line: &mut Vec<u8>, descriptor: Field) {
         0 => line.insert(descriptor.start + random.place(2), random.pick(DIGITS)),
         1 => line[descriptor.start] = other(random, line[descriptor.start], LIKE_DIGIT),
         _ => line[descriptor.start] = random.pick(DIGITS),
+    }
+}
+
+/// Another byte in a quoted descriptor, one too many or one too few.
+fn in_quoted(random: &mut Random, line: &mut Vec<u8>, Field { start, end }: Field) {
+    let place = start + random.place(end - start);
+    match random.below(5) {
+        0 => drop(line.remove(place)),
+        1 => line.insert(place, line[place]),
+        2 => line.insert(place, random.pick(LIKE_QUOTED)),
+        _ => line[place] = other(random, line[place], LIKE_QUOTED),
     }
 }
 

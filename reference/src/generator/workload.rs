@@ -4,6 +4,7 @@ use super::flat_table;
 use super::record::{Data, Record, joined, trace_of};
 use super::shape::{chain, clocks_off, many_types, neighbours};
 use crate::levels::Levels;
+use crate::statistics::Sums;
 use crate::{Asked, MAX_BYTES, MAX_RECORDS};
 
 /// A trace and its table, read leniently.
@@ -32,7 +33,7 @@ pub fn all() -> Vec<Workload> {
     let sound = neighbours(MAX_RECORDS, ROW, i64::from(LATENCY));
     let mut off = sound.clone();
     clocks_off(&mut off, 1_000_000);
-    let asked = Asked::with_levels_off(2);
+    let asked = Asked::choice_alone(2);
     let of = |name, trace, latency| {
         let latencies = flat_table(latency);
         Workload { name, asked, trace, latencies, wanted: false }
@@ -49,12 +50,13 @@ pub fn all() -> Vec<Workload> {
         of("a hundred types on one pair", trace_of(&many_types(MAX_RECORDS, 0..100)), 5),
         of("a hundred negative types on one pair", trace_of(&many_types(MAX_RECORDS, -100..0)), 5),
         of("a bad last line", bad_last_line(sound), LATENCY),
+        Workload { asked: Asked::comparing(2), ..of("2,048 records, a tenth statistics", told(), 0) },
     ]
 }
 
 pub fn merged() -> Vec<Nodes> {
     let [first, second] = neighbours_on_two_nodes();
-    let [ours, theirs] = [0, 1].map(statistics);
+    let [ours, theirs] = [0, 1].map(passed_over_on);
     vec![
         Nodes { name: "two traces of 2,048 records, merged", first, second, choice: 1 },
         Nodes { name: "two of lines passed over, merged", first: ours, second: theirs, choice: 2 },
@@ -65,7 +67,7 @@ pub fn merged() -> Vec<Nodes> {
 pub fn lists() -> [Workload; 2] {
     let of = |name, records: &[Record], latency| {
         let (trace, latencies) = (trace_of(records), flat_table(latency));
-        Workload { name, asked: Asked::with_levels_off(2), trace, latencies, wanted: false }
+        Workload { name, asked: Asked::choice_alone(2), trace, latencies, wanted: false }
     };
     // Others before the chain, of a processor that is not in it, so that there are as many as there may be.
     let others = (0..MAX_RECORDS - LINKS).map(|_| Record::local(0, 0, 0, ROW as i64));
@@ -91,14 +93,58 @@ fn neighbours_on_two_nodes() -> [Vec<u8>; 2] {
     })
 }
 
-/// Statistics of one node, as many as there is room for, each between two of another one's.
-fn statistics(node: usize) -> Vec<u8> {
+/// Lines of one node that are passed over, as many as there is room for, each between two of another one's.
+fn passed_over_on(node: usize) -> Vec<u8> {
     let line = |place| {
         let micros = 2 * place + node;
-        format!("-101 -1 0.{micros:06} {node} 0 2 \"%d%lf\" 0 0.000523 1 0.001013\n")
+        format!("-111 -1 0.{micros:06} {node} 0 2 \"%d%lf\" 0 0.000523 1 0.001013\n")
     };
     let lines = MAX_BYTES / line(0).len();
     (0..lines).map(line).collect::<String>().into_bytes()
+}
+
+/// Ten processors enter and leave ten events, and every tenth record tells sixteen pairs of what one of them
+/// did so far.
+fn told() -> Vec<u8> {
+    let mut sums = [[Sums::default(); ROW]; ROW];
+    let mut steps = (0..MAX_RECORDS).map(|step| (step % 2, step / 2 % ROW, step / 2 / ROW % ROW));
+    let records: Vec<Record> = (0..MAX_RECORDS)
+        .map(|place| {
+            let time = place as i64;
+            if place % 10 == 9 {
+                let processor = place / 10 % ROW;
+                return Record { time, ..statistics(place / 10, processor, &sums[processor]) };
+            }
+            let (half, processor, event) = steps.next().unwrap_or_default();
+            let sums = &mut sums[processor][event];
+            if half == 0 {
+                sums.entries += 1;
+                sums.spent -= i128::from(time);
+            } else {
+                sums.exits += 1;
+                sums.spent += i128::from(time);
+            }
+            Record::local(if half == 0 { -3 } else { -4 }, event as i64, time, processor as i64)
+        })
+        .collect();
+    trace_of(&records)
+}
+
+/// Counts more often than times, which are longer, and than volumes.
+fn statistics(place: usize, processor: usize, sums: &[Sums; ROW]) -> Record {
+    let record_type = [-102, -101, -102, -103][place % 4];
+    let pair = |pair: usize| {
+        let event = pair % ROW;
+        let Sums { entries, exits, spent, .. } = sums[event];
+        match record_type {
+            -101 if entries == exits => (event as i64, spent as i64),
+            -101 => (event as i64, 0),
+            -102 => (event as i64, entries as i64),
+            _ => ([-21, -51, -52][pair % 3], 0),
+        }
+    };
+    let data = Data::Pairs((0..16).map(pair).collect());
+    Record { data, ..Record::local(record_type, -1, 0, processor as i64) }
 }
 
 fn user_events(records: usize) -> Vec<Record> {
@@ -128,12 +174,13 @@ fn with_marks(records: &[Record]) -> Vec<Record> {
     marked
 }
 
-/// Statistics, as in the report's Table 20, to the last byte.
+/// Lines as long as the statistics of the report's Table 20, but of record types that are not listed, to the
+/// last byte.
 fn passed_over() -> Vec<u8> {
     let lines = [
-        &b"-101 -1 0.001982 6 0 2 \"%d%lf\" 0 0.000523 1 0.001013\n"[..],
-        b"-102 -1 0.001982 6 0 2 \"%d%d\" 0 1 1 1\n",
-        b"-103 1 0.001982 6 0 2 \"%d%d\" -21 8 -52 8\n",
+        &b"-111 -1 0.001982 6 0 2 \"%d%lf\" 0 0.000523 1 0.001013\n"[..],
+        b"-112 -1 0.001982 6 0 2 \"%d%d\" 0 1 1 1\n",
+        b"-113 1 0.001982 6 0 2 \"%d%d\" -21 8 -52 8\n",
     ];
     let mut trace: Vec<u8> = lines.into_iter().cycle().take(1_600).flatten().copied().collect();
     trace.truncate(MAX_BYTES - 60);

@@ -29,8 +29,8 @@ pub const TRACE_B: &str = "\
 ";
 
 #[allow(dead_code)]
-pub const STRICT: Asked = Asked::with_levels_off(1);
-pub const LENIENT: Asked = Asked::with_levels_off(2);
+pub const STRICT: Asked = Asked::choice_alone(1);
+pub const LENIENT: Asked = Asked::choice_alone(2);
 
 /// The starts of sends and of receives.
 #[allow(dead_code)]
