@@ -4,10 +4,10 @@
  * include/cantuvesh.h, and prints the line that compiles a program with it. It needs no set-up, keeps
  * nothing between calls, allocates nothing and may be called from several threads at once, each with
  * times, room and lists of its own. To judge takes some 160,000 bytes of the calling thread's stack
- * (155,384 as reference/stack measured it: at 2,048 records, the written trace wanted, and with the
+ * (155,576 as reference/stack measured it: at 2,048 records, the written trace wanted, and with the
  * registers that the loader keeps where it binds a function at its first use), to merge some 90,000
- * (83,064), to list the messages some 190,000 (185,592), and a chain of 2,048 records some 370,000
- * (360,928).
+ * (83,288), to list the messages some 190,000 (186,040), and a chain of 2,048 records some 370,000
+ * (360,944).
  */
 #ifndef CANTUVESH_H
 #define CANTUVESH_H
