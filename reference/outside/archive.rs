@@ -21,7 +21,7 @@ pub fn asked_of(asked: Asked) -> raw::Asked {
 }
 
 /// The library's answer as the reference's.
-fn answer_of(given: raw::Answer) -> Answer {
+pub fn answer_of(given: raw::Answer) -> Answer {
     let raw::Answer { number, line, column, verdict, listed, passed, matched, unreceived, rounds, written } =
         given;
     Answer { number, line, column, verdict, listed, passed, matched, unreceived, rounds, written }

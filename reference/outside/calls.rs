@@ -10,6 +10,9 @@ pub mod archive;
 #[cfg_attr(all(feature = "before-column", not(feature = "before-levels")), path = "before_column.rs")]
 #[cfg_attr(feature = "before-levels", path = "before_levels.rs")]
 mod before;
+#[cfg(feature = "before-statistics")]
+#[path = "older_call.rs"]
+mod older_call;
 #[cfg(feature = "before-column")]
 #[path = "without_column.rs"]
 mod without_column;
