@@ -23,6 +23,10 @@ planOf count first =
     BadChoice
     (cond (ltb 5 count) TooMany (cond (ltb count 4) Unnamed (Judge (choiceNamed first) (ltb 4 count))))
 
--- the programs that have these arguments ask for no levels, "0 for off, as for document 01's samples", and compare no statistics, "0 for off"
+-- the programs without named arguments ask for no levels, "0 for off, as for document 01's samples", and compare no statistics, "0 for off"
+unfoldable pub choiceAndShare : ℕ → ℕ → Asked
+choiceAndShare choice share = record { choice = choice; levels = 0; picl = pos 0; user = pos 0; trace = pos 0; statistics = 0; share = share }
+
+-- where no share is named either, "Share 0 is today's rule"
 unfoldable pub choiceAlone : ℕ → Asked
-choiceAlone choice = record { choice = choice; levels = 0; picl = pos 0; user = pos 0; trace = pos 0; statistics = 0 }
+choiceAlone choice = choiceAndShare choice 0

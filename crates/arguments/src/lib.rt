@@ -1,7 +1,7 @@
 // What the arguments ask for, as words: document 01, "A first argument other than 1 or 2, or none, is refusal 1; after that a file that
 // can't be read, or isn't named, gives the single line "cannot read"".
 ghost use mathlib.Core.Path.{_≡_};
-ghost use Rattle.arguments.specs.Arguments.{choiceNamed, planOf, choiceAlone};
+ghost use Rattle.arguments.specs.Arguments.{choiceNamed, planOf, choiceAndShare, choiceAlone};
 use paper::Asked;
 
 // What is to be done, before any file is looked at: the choice, and whether the written trace is wanted.
@@ -43,9 +43,9 @@ pub fn planned(count: usize, first: &[u8]) -> Plan
     Plan::Judge(choice, 4 < count)
 }
 
-// What is named by the programs that have these arguments: a choice, and nothing else is asked for.
-pub fn choice_alone(choice: u32) -> Asked
-    ensures { λ r. ⌜ r ≡ choiceAlone choice ⌝ }
+// What is named by a program without named arguments: a choice and a share, and nothing else is asked for.
+pub fn choice_and_share(choice: u32, share: u32) -> Asked
+    ensures { λ r. ⌜ r ≡ choiceAndShare choice share ⌝ }
 {
     Asked {
         choice: choice,
@@ -54,5 +54,13 @@ pub fn choice_alone(choice: u32) -> Asked
         user: 0,
         trace: 0,
         statistics: 0,
+        share: share,
     }
+}
+
+// By those of them that name no share either.
+pub fn choice_alone(choice: u32) -> Asked
+    ensures { λ r. ⌜ r ≡ choiceAlone choice ⌝ }
+{
+    choice_and_share(choice, 0)
 }

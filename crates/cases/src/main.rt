@@ -13,7 +13,7 @@ use bytes::scan::find;
 use libc::STDOUT_FILENO;
 use showing::Shows;
 
-// The programs that take a choice, two files and a word more.
+// The programs that take a choice, two files and one word more, or two.
 enum Program {
     Judge,
     Merge,
@@ -121,25 +121,29 @@ fn perform(
     choice: &[u8],
     first: &[u8],
     second: &[u8],
+    third: &[u8],
     last: &[u8],
 ) {
     match program {
-        Program::Judge => shell::perform(count, choice, first, second, last),
-        Program::Merge => gather::perform(count, choice, first, second, last),
-        Program::Messages => inquiry::perform(Shows::Messages, count, choice, first, second, last),
-        Program::Why => inquiry::perform(Shows::Reasons, count, choice, first, second, last),
+        Program::Judge => shell::perform(count, choice, first, second, third),
+        Program::Merge => gather::perform(count, choice, first, second, third),
+        Program::Messages => {
+            inquiry::perform(Shows::Messages, count, choice, first, second, third, last)
+        }
+        Program::Why => inquiry::perform(Shows::Reasons, count, choice, first, second, third, last),
     }
 }
 
 // The words of a line as its arguments, with its own name in the count.
 fn run(program: Program, line: &[u8]) {
     if line.len() == 0 {
-        perform(program, 1, line, line, line, line);
+        perform(program, 1, line, line, line, line, line);
         return;
     }
     let a = behind(line, 0);
     let b = behind(line, a);
     let c = behind(line, b);
+    let d = behind(line, c);
     perform(
         program,
         spaces(line) + 2,
@@ -147,6 +151,7 @@ fn run(program: Program, line: &[u8]) {
         word(line, a),
         word(line, b),
         word(line, c),
+        word(line, d),
     );
 }
 

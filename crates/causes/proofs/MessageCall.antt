@@ -38,7 +38,7 @@ module _ (q : Query) (list : List Pair) where
     call-found = fill-found q list _ a
 
     are : Messages (entries (judging q) (a .choice)) its
-    are = messages-are (entries (judging q) (a .choice)) (a .matched .matches) (judging q .latencies)
+    are = messages-are (entries (judging q) (a .choice)) (a .matched .matches) (judging q .asked .share) (judging q .latencies)
 
     pub its-many : length its ≡ matched (judging q)
     its-many = are .many ∙ sym (matched-is (judging q) a)

@@ -61,9 +61,9 @@ module _ (es : List Entry) where
                 (own-send es _ _ (message list l .send) (r .inside k k<) (r .inside l l<) (r .sends k k< ∙ ap (λ (j : ℕ). some j) e) (r .sends l l<));
           }
 
-    pub messages-are : (table : List ℕ) → Messages es (messagesOf (waitsOf table es))
+    pub messages-are : (share : ℕ) (table : List ℕ) → Messages es (messagesOf (waitsOf share table es))
     unfolding messagesOf waitsOf
-    messages-are table = are-messages _ (received (sendOf es) (length es))
+    messages-are share table = are-messages _ (received (sendOf es) (length es))
 
   -- ---- and that leaves one list
 

@@ -1,5 +1,6 @@
 -- "from that record back, step by step, to a record still at its original time, each step to the record before it on its processor or to its
--- send. Starting time plus the chain's latencies equals the moved time".
+-- send. Starting time plus the chain's latencies equals the moved time". By the ninth change request "the chain of request 7" reads the new
+-- condition: a step to the record before it takes the gap that is kept, and what the steps take together has these gaps in it.
 use Prim.Native.Nat.{ℕ, _+_, _<_}
 use mathlib.Core.Path.{_≡_}
 use mathlib.Core.List.{List, [], _∷_}
@@ -14,7 +15,7 @@ pub data Back (w : Waits) : (i last sum : ℕ) → List ℕ → Type 0 where
   here : {i : ℕ} → Back w i i 0 (i ∷ [])
   step : {i j v last sum : ℕ} {c : List ℕ} → Wait w i j v → Back w j last sum c → Back w i last (v + sum) (i ∷ c)
 
--- such a way to a record still at its original time, which with the waits gives the moved time
+-- such a way to a record still at its original time, which with the latencies and the gaps of the steps gives the moved time
 pub record Explains (w : Waits) (x : ℕ → ℤ) (i : ℕ) (c : List ℕ) : Type 0 where
   pub last : ℕ
   pub sum : ℕ

@@ -9,11 +9,9 @@ use borrow.Table.Elements.{take-le}
 use lib.ListN.{length, take}
 use lib.Seq.{length-take-le}
 use lib.IntN.{ℤ}
-use lib.Signed.{_≤ℤ_}
 use Rattle.paper.specs.Answer as paper
-use Rattle.paper.specs.Answer.{found, reach}
+use Rattle.paper.specs.Answer.{reach}
 use Rattle.paper.specs.Chain.{onPlace, chain}
-use Rattle.paper.specs.Clock.{limit, timeAt}
 use Rattle.paper.specs.Columns.{nowhere}
 use Rattle.paper.specs.Filling.{Query, query, untouched, judged, onReached, fill}
 use Rattle.paper.specs.Matching.{waitsOf}
@@ -23,8 +21,6 @@ use Rattle.paper.specs.declared.Filled.{Filled}
 use Rattle.paper.specs.declared.Site.{Site}
 use Rattle.store.specs.Layout.{entriesIn}
 use Rattle.chains.proofs.Places.{length-places}
-use Rattle.rounds.proofs.Meaning.{settled-answer}
-use Rattle.waits.proofs.Closed.{closed-waits}
 use Rattle.reach.specs.declared.Reached.{Reached}
 use Rattle.reach.specs.declared.Reached.the-variants.{Times, Refused, Misfit}
 use Rattle.reach.specs.Reach.{reaches}
@@ -70,50 +66,44 @@ rooms-cut times f spare before latency ranks after receive a b c d e g =
 
 -- ---- however far the call came
 
-module _ (latencies : List ℕ) (place : ℕ) (store : List ℕ) (times : List ℤ) (sends list : List ℕ) {reached : Reached} where
+module _ (latencies : List ℕ) (share place : ℕ) (store : List ℕ) (times : List ℤ) (sends list : List ℕ) {reached : Reached} where
   pub concluded-refused : {fault : Fault} {site : Site} → reached ≡ Refused fault site → {r : Filled} → r ≡ unfilling fault site
-      → ConcludedBy reached latencies place store times sends list r list
+      → ConcludedBy reached latencies share place store times sends list r list
   unfolding reaches unfilling chain fill onReached untouched
-  concluded-refused e a = record { gives = λ trace asked says. let stops = rw e at says in rw (a, stops) }
+  concluded-refused e a = record { gives = λ trace asked same says. let stops = rw e at says in rw (a, stops) }
 
-  pub concluded-never : reached ≡ Misfit → {r : Filled} {list′ : List ℕ} → ConcludedBy reached latencies place store times sends list r list′
+  pub concluded-never : reached ≡ Misfit → {r : Filled} {list′ : List ℕ} → ConcludedBy reached latencies share place store times sends list r list′
   unfolding reaches
-  concluded-never e = record { gives = λ trace asked says. absurd (rw e at says) }
+  concluded-never e = record { gives = λ trace asked same says. absurd (rw e at says) }
 
   module _ {counts : Counts} (e : reached ≡ Times counts) where
     -- "a place not below the listed count is 22"
     pub concluded-outside : counts .listed ≤ place → {site : Site} → site ≡ nowhere → {r : Filled} → r ≡ unfilling Fault.NoPlace site
-        → ConcludedBy reached latencies place store times sends list r list
+        → ConcludedBy reached latencies share place store times sends list r list
     unfolding reaches unfilling chain fill onReached onPlace untouched waitsOf
     concluded-outside l s a =
         record {
-          gives = λ trace asked says.
+          gives = λ trace asked same says.
               let (f, is, held) = rw e at says in
               rw (a, s, is, le-ltb place (length (f .reading .entries)) (omega (arith, l, held .listed)));
         }
 
     pub concluded-inside : place < counts .listed → {r : Filled} {list′ : List ℕ}
-        → ExplainedBy latencies (entriesIn store (length (take (counts .listed - 0) times))) (take (counts .listed - 0) times)
+        → ExplainedBy share latencies (entriesIn store (length (take (counts .listed - 0) times))) (take (counts .listed - 0) times)
         (take (counts .listed - 0) sends) place list r list′
         → counts .listed ≤ length times
-        → ConcludedBy reached latencies place store times sends list r list′
+        → ConcludedBy reached latencies share place store times sends list r list′
     unfolding reaches chain fill onReached onPlace waitsOf judged
     concluded-inside l explained h =
         record {
-          gives = λ trace asked says.
+          gives = λ trace asked same says.
               let (f, is, held) = rw e at says in
               let es = f .reading .entries in
-              let told = rw (cut (counts .listed) times h, sub-zero (counts .listed), held .entries, held .new, held .places) at explained in
+              let told = rw (cut (counts .listed) times h, sub-zero (counts .listed), held .entries, held .new, held .places, ← same) at explained in
               let inside : place < length es = omega (arith, l, held .listed) in
-              rw (is, lt-ltb place (length es) inside) (told .gives (low f trace asked is) refl);
+              let few = found-means (judged (query trace latencies asked)) f is .share in
+              rw (is, lt-ltb place (length es) inside) (told .gives few refl);
         }
-      where
-        low : (f : paper.Found) (trace : List ℕ) (asked : _) → reach (judged (query trace latencies asked)) ≡ found f → (k : ℕ)
-            → k < length (f .times) → timeAt (f .times) k ≤ℤ limit
-        low f trace asked is k k< =
-            let m = found-means (judged (query trace latencies asked)) f is in
-            let a = settled-answer (waitsOf latencies (f .reading .entries)) (closed-waits (f .reading .entries) latencies) (m .settles) in
-            a .least .sound .within k (omega (arith, a .size, k<))
 
 -- a time and a send's place for each listed record, of a call that came to its times
 pub with-places : (q : Query) (reached : Reached) (store sends : List ℕ) (times : List ℤ) → reaches (q .trace) (reach (judged q)) reached store sends times

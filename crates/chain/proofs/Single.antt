@@ -8,7 +8,7 @@ use mathlib.Core.Option.{Option, some, Option·getD}
 use mathlib.Core.List.{List}
 use lib.ListN.{length, getD}
 use lib.Dec.{ltb}
-use lib.IntN.{ℤ}
+use lib.IntN.{ℤ, pos, _+ℤ_}
 use Rattle.paper.specs.Clock.{listed, timeAt}
 use Rattle.paper.specs.Matching.{lastOn, sendOf}
 use Rattle.paper.specs.declared.Entry.{Entry}
@@ -17,9 +17,10 @@ use Rattle.matching.proofs.Before.{LastOn, last-on}
 use Rattle.matching.proofs.Own.{own-send}
 use Rattle.store.proofs.Listed.{length-listed, listed-at}
 use Rattle.chains.specs.Places.{placesOf}
+use Rattle.paper.specs.Tests.{eqZ}
 use Rattle.chains.proofs.Places.{some-place}
 use Rattle.waits.specs.Tables.{beforesOf}
-use Rattle.steps.specs.Tables.{keeps, exactAt, exactTable}
+use Rattle.steps.specs.Tables.{exactAt, exactTable}
 use Rattle.steps.proofs.Exact.{exact-long, exact-at}
 use Rattle.ranks.specs.Ranked.{at, OneEach}
 
@@ -62,9 +63,9 @@ module _ (times : List ℤ) (waits table : List ℕ) where
   abbrev n : ℕ
   n = length table
 
-  kept : (i j : ℕ) → exactAt times waits n i j < n → j ≡ exactAt times waits n i j
+  kept : (wait i j : ℕ) → exactAt times wait n i j < n → j ≡ exactAt times wait n i j
   unfolding exactAt
-  kept i j l = go (ltb j (length times) && keeps (timeAt times i) (timeAt times j) (getD waits i 0)) l
+  kept wait i j l = go (ltb j (length times) && eqZ (timeAt times i) (timeAt times j +ℤ pos wait)) l
     where
       go : (b : Bool) → cond b j n < n → j ≡ cond b j n
       go true l = refl
@@ -76,7 +77,7 @@ module _ (times : List ℤ) (waits table : List ℕ) where
   exact-was : (i : ℕ) → i < n → at exact i < n → at table i ≡ at exact i
   exact-was i i< l =
       let is = exact-at times waits n table i i< in
-      kept i (at table i) (rw is at l) ∙ sym is
+      kept (getD waits i 0) i (at table i) (rw is at l) ∙ sym is
 
   pub exact-single : OneEach table → OneEach exact
   exact-single single i k i< k< e l =

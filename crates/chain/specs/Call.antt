@@ -1,13 +1,12 @@
 -- The call, and what the functions below it have in hand.
 use Prim.Native.Nat.{ℕ, _≤_, _<_}
 use mathlib.Core.Path.{_≡_}
-use mathlib.Core.List.{List, [], _∷_}
+use mathlib.Core.List.{List}
 use lib.ListN.{length}
 use lib.IntN.{ℤ}
-use lib.Signed.{_≤ℤ_}
 use Rattle.paper.specs.Answer.{reach}
 use Rattle.paper.specs.Chain as paper
-use Rattle.paper.specs.Clock.{limit, timeAt}
+use Rattle.paper.specs.Clock.{timeAt}
 use Rattle.paper.specs.Filling.{query, filling, onList, judged}
 use Rattle.paper.specs.Matching.{waitsOf}
 use Rattle.paper.specs.declared.Asked.{Asked}
@@ -15,17 +14,13 @@ use Rattle.paper.specs.declared.Entry.{Entry}
 use Rattle.paper.specs.declared.Filled.{Filled}
 use Rattle.store.specs.Layout.{tooMany}
 use Rattle.chains.specs.Places.{placesOf}
-use Rattle.waits.specs.Tables.{originalsOf, beforesOf, latenciesOf}
+use Rattle.waits.specs.Tables.{originalsOf, beforesOf, gapsOf, latenciesOf}
 use Rattle.steps.specs.Tables.{exactTable, endRanks}
 use Rattle.reach.specs.declared.Reached.{Reached}
 use Rattle.reach.specs.declared.Reached.the-variants.{Times, Refused, Misfit}
 use Rattle.reach.specs.Reach.{reaches}
 
 -- ---- the steps
-
--- the gaps to keep from the record before: 0, and past its end a table is 0 too
-unfoldable pub noGap : List ℕ
-noGap = 0 ∷ []
 
 -- slices of n places each
 pub record Slices (n : ℕ) (originals : List ℤ) (before sends latency ranks : List ℕ) : Type 0 where
@@ -37,8 +32,8 @@ pub record Slices (n : ℕ) (originals : List ℤ) (before sends latency ranks :
   pub all-ranks : length ranks ≡ n
 
 -- the tables of the steps of some records, from their times and the places of their sends
-pub record Stepped (table : List ℕ) (es : List Entry) (times : List ℤ) (sends ranks before′ sends′ ranks′ : List ℕ) : Type 0 where
-  pub by-processor : before′ ≡ exactTable times noGap (length times) (beforesOf es)
+pub record Stepped (share : ℕ) (table : List ℕ) (es : List Entry) (times : List ℤ) (sends ranks before′ sends′ ranks′ : List ℕ) : Type 0 where
+  pub by-processor : share ≤ 1000 → before′ ≡ exactTable times (gapsOf share es) (length times) (beforesOf es)
   pub by-send : sends′ ≡ exactTable times (latenciesOf table es) (length times) sends
   pub at-original : ranks′ ≡ endRanks (originalsOf es) times (length times) ranks
 
@@ -56,11 +51,11 @@ pub record Found (times : List ℤ) (sends : List ℕ) (place : ℕ) : Type 0 wh
   pub all-sends : length sends ≡ length times
   pub inside : place < length times
 
--- whatever the times: if none is above the limit, and the places are those of the sends, it is the chain
-pub record ExplainedBy (table : List ℕ) (es : List Entry) (times : List ℤ) (sends : List ℕ) (place : ℕ) (list : List ℕ) (r : Filled)
+-- whatever the times: if at most the whole gaps are kept, and the places are those of the sends, it is the chain
+pub record ExplainedBy (share : ℕ) (table : List ℕ) (es : List Entry) (times : List ℤ) (sends : List ℕ) (place : ℕ) (list : List ℕ) (r : Filled)
     (list′ : List ℕ) : Type 0 where
-  pub gives : ((k : ℕ) → k < length times → timeAt times k ≤ℤ limit) → sends ≡ placesOf es
-      → filling r list′ ≡ onList (paper.chainOf (waitsOf table es) (timeAt times) place) list
+  pub gives : share ≤ 1000 → sends ≡ placesOf es
+      → filling r list′ ≡ onList (paper.chainOf (waitsOf share table es) (timeAt times) place) list
 
 -- a time and a send's place for each listed record
 pub record Places (listed : ℕ) (times : List ℤ) (sends : List ℕ) : Type 0 where
@@ -73,8 +68,8 @@ WithPlaces (Times counts) times sends = Places (counts .listed) times sends
 WithPlaces (Refused fault site) times sends = Unit
 WithPlaces Misfit times sends = Unit
 
--- whatever the trace and what the caller named: where the call came so far with them, it comes to this
-pub record ConcludedBy (reached : Reached) (latencies : List ℕ) (place : ℕ) (store : List ℕ) (times : List ℤ) (sends list : List ℕ) (r : Filled)
+-- whatever the trace and what the caller named beside the share: where the call came so far with them, it comes to this
+pub record ConcludedBy (reached : Reached) (latencies : List ℕ) (share place : ℕ) (store : List ℕ) (times : List ℤ) (sends list : List ℕ) (r : Filled)
     (list′ : List ℕ) : Type 0 where
-  pub gives : (trace : List ℕ) (asked : Asked) → reaches trace (reach (judged (query trace latencies asked))) reached store sends times
+  pub gives : (trace : List ℕ) (asked : Asked) → asked .share ≡ share → reaches trace (reach (judged (query trace latencies asked))) reached store sends times
       → filling r list′ ≡ paper.chain (query trace latencies asked) place list

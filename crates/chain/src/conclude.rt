@@ -11,6 +11,7 @@ use reach::Reached;
 // The steps laid out, the fewest of each record counted, and the walk.
 fn explain_in(
     latencies: &[u32],
+    share: u32,
     place: u64,
     store: &[u32],
     times: &[i64],
@@ -25,11 +26,12 @@ fn explain_in(
 ) -> Filled
     requires { ⌜ Rooms (length (now times)) (now spare) (now before) (now sends) (now latency) (now ranks) (now after) (now receive) ⌝ }
     requires { ⌜ place < length (now times) ⌝ }
-    ensures { λ r. ⌜ ExplainedBy (now (latencies .entry)) (entriesIn (now (store .entry)) (length (now (times .entry)))) (now (times .entry)) (now (sends .entry)) place (now (list .entry)) r (now (list .exit)) ⌝ }
+    ensures { λ r. ⌜ ExplainedBy share (now (latencies .entry)) (entriesIn (now (store .entry)) (length (now (times .entry)))) (now (times .entry)) (now (sends .entry)) place (now (list .entry)) r (now (list .exit)) ⌝ }
 {
     steps_into(
         store,
         latencies,
+        share,
         times,
         spare,
         before,
@@ -44,6 +46,7 @@ fn explain_in(
 // The times were found, and there is such a record. The arrays that the work needs beside what was found stand here.
 fn explain(
     latencies: &[u32],
+    share: u32,
     place: u64,
     store: &[u32],
     times: &[i64],
@@ -51,7 +54,7 @@ fn explain(
     list: &mut [u64],
 ) -> Filled
     requires { ⌜ Found (now times) (now sends) place ⌝ }
-    ensures { λ r. ⌜ ExplainedBy (now (latencies .entry)) (entriesIn (now (store .entry)) (length (now (times .entry)))) (now (times .entry)) (now (sends .entry)) place (now (list .entry)) r (now (list .exit)) ⌝ }
+    ensures { λ r. ⌜ ExplainedBy share (now (latencies .entry)) (entriesIn (now (store .entry)) (length (now (times .entry)))) (now (times .entry)) (now (sends .entry)) place (now (list .entry)) r (now (list .exit)) ⌝ }
 {
     let n = times.len();
     let mut spare = seek::blanks();
@@ -62,6 +65,7 @@ fn explain(
     let mut receive = seek::places();
     explain_in(
         latencies,
+        share,
         place,
         store,
         times,
@@ -79,6 +83,7 @@ fn explain(
 pub(crate) fn conclude(
     reached: Reached,
     latencies: &[u32],
+    share: u32,
     place: u64,
     store: &[u32],
     times: &[i64],
@@ -86,7 +91,7 @@ pub(crate) fn conclude(
     list: &mut [u64],
 ) -> Filled
     requires { ⌜ WithPlaces reached (now times) (now sends) ⌝ }
-    ensures { λ r. ⌜ ConcludedBy reached (now (latencies .entry)) place (now (store .entry)) (now (times .entry)) (now (sends .entry)) (now (list .entry)) r (now (list .exit)) ⌝ }
+    ensures { λ r. ⌜ ConcludedBy reached (now (latencies .entry)) share place (now (store .entry)) (now (times .entry)) (now (sends .entry)) (now (list .entry)) r (now (list .exit)) ⌝ }
 {
     match reached {
         Reached::Times(counts) => {
@@ -96,6 +101,7 @@ pub(crate) fn conclude(
             }
             explain(
                 latencies,
+                share,
                 place,
                 store,
                 &times[0..n],

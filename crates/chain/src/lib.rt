@@ -24,5 +24,14 @@ pub fn chain(trace: &[u8], latencies: &[u32], asked: Asked, place: u64, list: &m
         &mut sends,
         &mut times,
     );
-    conclude::conclude(reached, latencies, place, &store, &times, &mut sends, list)
+    conclude::conclude(
+        reached,
+        latencies,
+        asked.share,
+        place,
+        &store,
+        &times,
+        &mut sends,
+        list,
+    )
 }

@@ -1,16 +1,13 @@
--- "1 to 4": the latencies looked through, the tests told, and what is cleared read.
-use Prim.Native.Nat.{ℕ, _+_, _≤_, _<_}
+-- "1 to 4": the tests told, and what is cleared read.
+use Prim.Native.Nat.{ℕ, _≤_, _<_}
 use mathlib.Core.Path.{_≡_, refl}
-use mathlib.Core.List.{List}
-use mathlib.Core.Bool.{Bool, true, false, cond}
+use mathlib.Core.Bool.{Bool, true, false, cond, _&&_}
 use mathlib.Core.Option.{Option, none, some}
-use native.Mathlib.Numerals.{add-one}
-use lib.ListN.{length, drop, getD, drop-of-length-le}
-use lib.Seq.{drop-cons}
-use lib.Dec.{leb}
-use borrow.Author.Tests.{le-leb, lt-leb, leb-true, eq-eqb, ne-eqb}
+use lib.ListN.{length}
+use lib.Dec.{eqb, leb}
+use borrow.Author.Tests.{le-leb, lt-leb, leb-true, eqb-true, eq-eqb, ne-eqb}
 use Rattle.paper.specs.Columns.{nowhere}
-use Rattle.paper.specs.Answer.{Given, Reached, most, longest, heard, choiceOf, rightLengths, lowLatencies, stopped, onRead, onChoice, reach}
+use Rattle.paper.specs.Answer.{Given, Reached, most, longest, heard, choiceOf, rightSizes, lowLatencies, stopped, onRead, onChoice, reach}
 use Rattle.paper.specs.Reading.{readOf}
 use Rattle.paper.specs.declared.Asked.{Asked}
 use Rattle.paper.specs.declared.Choice.{Choice}
@@ -18,26 +15,12 @@ use Rattle.paper.specs.declared.Choice.the-variants.{Strict, Lenient}
 use Rattle.paper.specs.declared.Fault.{Fault}
 use Rattle.paper.specs.declared.Site.{Site}
 use Rattle.paper.specs.declared.Fault.the-variants as Fault
+use Rattle.forms.proofs.Tests.{both}
 use Rattle.clearance.specs.declared.Heard.{Heard}
 use Rattle.clearance.specs.declared.Heard.the-variants.{Of, Nothing}
 use Rattle.clearance.specs.declared.Cleared.{Cleared}
 use Rattle.clearance.specs.declared.Cleared.the-variants.{Under, Refused}
 use Rattle.clearance.specs.Clearance.{heardOf, clearedUnder, clearedBy, clearance}
-
--- ---- "each at most 1,000,000"
-
-module _ (l : List ℕ) (i : ℕ) where
-  pub low-on : i < length l → getD l i 0 ≤ 1000000 → lowLatencies (drop i l) ≡ lowLatencies (drop (i + 1) l)
-  unfolding lowLatencies
-  low-on h m = rw (add-one, drop-cons l i 0 h, le-leb (getD l i 0) 1000000 m)
-
-  pub low-not : i < length l → 1000000 < getD l i 0 → false ≡ lowLatencies (drop i l)
-  unfolding lowLatencies
-  low-not h m = rw (drop-cons l i 0 h, lt-leb (getD l i 0) 1000000 m)
-
-  pub low-end : length l ≤ i → true ≡ lowLatencies (drop i l)
-  unfolding lowLatencies
-  low-end h = rw (drop-of-length-le l h)
 
 -- ---- 1
 
@@ -73,31 +56,36 @@ module _ (a : Asked) where
 
 module _ (choice : Choice) (g : Given) where
   pub other-table : (length (g .latencies) ≡ 4096 → ⊥) → Refused Fault.WrongLength ≡ clearedUnder choice g
-  unfolding clearedUnder rightLengths
+  unfolding clearedUnder rightSizes
   other-table n = rw (ne-eqb (length (g .latencies)) 4096 n)
 
   module _ (table : length (g .latencies) ≡ 4096) where
     pub other-places : (g .places ≡ most g → ⊥) → Refused Fault.WrongLength ≡ clearedUnder choice g
-    unfolding clearedUnder rightLengths
+    unfolding clearedUnder rightSizes
     other-places n = rw (eq-eqb (length (g .latencies)) 4096 table, ne-eqb (g .places) (most g) n)
 
     module _ (places : g .places ≡ most g) where
-      right : rightLengths g ≡ true
-      unfolding rightLengths
-      right = rw (eq-eqb (length (g .latencies)) 4096 table, eq-eqb (g .places) (most g) places)
+      pub high-share : 1000 < g .asked .share → Refused Fault.WrongLength ≡ clearedUnder choice g
+      unfolding clearedUnder rightSizes
+      high-share h = rw (eq-eqb (length (g .latencies)) 4096 table, eq-eqb (g .places) (most g) places, lt-leb (g .asked .share) 1000 h)
 
-      pub high : lowLatencies (g .latencies) ≡ false → Refused Fault.HighLatency ≡ clearedUnder choice g
-      unfolding clearedUnder
-      high h = rw (right, h)
+      module _ (share : g .asked .share ≤ 1000) where
+        right : rightSizes g ≡ true
+        unfolding rightSizes
+        right = rw (eq-eqb (length (g .latencies)) 4096 table, eq-eqb (g .places) (most g) places, le-leb (g .asked .share) 1000 share)
 
-      module _ (low : lowLatencies (g .latencies) ≡ true) where
-        pub long : longest < length (g .trace) → Refused Fault.LongTrace ≡ clearedUnder choice g
+        pub high : lowLatencies (g .latencies) ≡ false → Refused Fault.HighLatency ≡ clearedUnder choice g
         unfolding clearedUnder
-        long h = rw (right, low, lt-leb (length (g .trace)) longest h)
+        high h = rw (right, h)
 
-        pub short : length (g .trace) ≤ longest → Under choice ≡ clearedUnder choice g
-        unfolding clearedUnder
-        short h = rw (right, low, le-leb (length (g .trace)) longest h)
+        module _ (low : lowLatencies (g .latencies) ≡ true) where
+          pub long : longest < length (g .trace) → Refused Fault.LongTrace ≡ clearedUnder choice g
+          unfolding clearedUnder
+          long h = rw (right, low, lt-leb (length (g .trace)) longest h)
+
+          pub short : length (g .trace) ≤ longest → Under choice ≡ clearedUnder choice g
+          unfolding clearedUnder
+          short h = rw (right, low, le-leb (length (g .trace)) longest h)
 
 -- by what was heard
 module _ (g : Given) {h : Heard} (is : heardOf h ≡ heard (g .asked)) where
@@ -112,26 +100,42 @@ module _ (g : Given) {h : Heard} (is : heardOf h ≡ heard (g .asked)) where
 -- ---- what the call then comes to
 
 module _ (g : Given) where
+  -- the lines are read, under a choice
+  pub record Reads (choice : Choice) (x : Reached) : Type 0 where
+    pub is : x ≡ onRead g choice (readOf choice (most g) (g .trace)) (readOf choice (most g) (g .trace) .stop)
+    pub short : length (g .trace) ≤ longest
+    pub share : g .asked .share ≤ 1000
+
   -- of the code's clearance, how far the paper's call comes
   abbrev Comes : Cleared → Reached → Type 0
   Comes (Refused fault) x = x ≡ stopped fault nowhere
-  Comes (Under choice) x =
-      (x ≡ onRead g choice (readOf choice (most g) (g .trace)) (readOf choice (most g) (g .trace) .stop)) × (length (g .trace) ≤ longest)
+  Comes (Under choice) x = Reads choice x
+
+  -- the parts of the test
+  sizes : rightSizes g ≡ true → ((eqb (length (g .latencies)) 4096 && eqb (g .places) (most g)) ≡ true) × (leb (g .asked .share) 1000 ≡ true)
+  unfolding rightSizes
+  sizes e = both (eqb (length (g .latencies)) 4096 && eqb (g .places) (most g)) (leb (g .asked .share) 1000) e
+
+  pub places-right : rightSizes g ≡ true → g .places ≡ most g
+  places-right e = eqb-true (g .places) (most g) (both (eqb (length (g .latencies)) 4096) (eqb (g .places) (most g)) (sizes e .0) .1)
+
+  pub share-low : rightSizes g ≡ true → g .asked .share ≤ 1000
+  share-low e = leb-true (g .asked .share) 1000 (sizes e .1)
 
   comes : (h : Option Choice) → Comes (clearedBy g h) (onChoice g h)
   unfolding clearedBy clearedUnder onChoice
   comes none = refl
-  comes (some choice) = go (rightLengths g) (lowLatencies (g .latencies)) (leb (length (g .trace)) longest) refl
+  comes (some choice) = go (rightSizes g) (lowLatencies (g .latencies)) (leb (length (g .trace)) longest) refl refl
     where
-      go : (a b c : Bool) → leb (length (g .trace)) longest ≡ c
+      go : (a b c : Bool) → rightSizes g ≡ a → leb (length (g .trace)) longest ≡ c
           → Comes (cond a (cond b (cond c (Under choice) (Refused Fault.LongTrace)) (Refused Fault.HighLatency)) (Refused Fault.WrongLength))
           (cond a
           (cond b (cond c (onRead g choice (readOf choice (most g) (g .trace)) (readOf choice (most g) (g .trace) .stop)) (stopped Fault.LongTrace nowhere)) (stopped Fault.HighLatency nowhere))
           (stopped Fault.WrongLength nowhere))
-      go false b c e = refl
-      go true false c e = refl
-      go true true false e = refl
-      go true true true e = (refl, leb-true (length (g .trace)) longest e)
+      go false b c d e = refl
+      go true false c d e = refl
+      go true true false d e = refl
+      go true true true d e = record { is = refl; short = leb-true (length (g .trace)) longest e; share = share-low d }
 
   cleared-comes : (x : Cleared) → x ≡ clearance g → Comes x (reach g)
   unfolding clearance reach
@@ -141,6 +145,5 @@ module _ (g : Given) where
       → reach g ≡ stopped fault site
   cleared-refused {x} fault e r s = rw s (rw r at (cleared-comes x e))
 
-  pub cleared-reads : {x : Cleared} (choice : Choice) → x ≡ clearance g → x ≡ Under choice
-      → (reach g ≡ onRead g choice (readOf choice (most g) (g .trace)) (readOf choice (most g) (g .trace) .stop)) × (length (g .trace) ≤ longest)
+  pub cleared-reads : {x : Cleared} (choice : Choice) → x ≡ clearance g → x ≡ Under choice → Reads choice (reach g)
   cleared-reads {x} choice e r = rw r at (cleared-comes x e)

@@ -5,7 +5,7 @@ use mathlib.Core.List.{List}
 use mathlib.Core.Option.{Option, none, some}
 use lib.ListN.{length}
 use lib.Dec.{leb}
-use Rattle.paper.specs.Answer.{Given, heard, rightLengths, lowLatencies, longest}
+use Rattle.paper.specs.Answer.{Given, heard, rightSizes, lowLatencies, longest}
 use Rattle.paper.specs.declared.Asked.{Asked}
 use Rattle.paper.specs.declared.Choice.{Choice}
 use Rattle.paper.specs.declared.Fault.the-variants as Fault
@@ -25,7 +25,7 @@ heardOf Heard.Nothing = none
 -- 2 to 4, behind a choice
 unfoldable pub clearedUnder : Choice → Given → Cleared
 clearedUnder choice g =
-    cond (rightLengths g)
+    cond (rightSizes g)
     (cond (lowLatencies (g .latencies)) (cond (leb (length (g .trace)) longest) (Under choice) (Refused Fault.LongTrace)) (Refused Fault.HighLatency))
     (Refused Fault.WrongLength)
 

@@ -1,4 +1,4 @@
-// "1 to 4": what is asked of the choice and the two switches, the lent table, the number of lent times and the size of the trace.
+// "1 to 4": what is asked of the choice and the two switches, the lent table, the number of lent times, the share and the size of the trace.
 ghost use mathlib.Core.Path.{_≡_};
 ghost use Rattle.paper.specs.Answer.{choiceOf, heard, lowLatencies};
 ghost use Rattle.clearance.specs.Clearance.{givenOf, heardOf, clearedUnder, clearance};
@@ -71,6 +71,9 @@ fn check_sizes(
         return Cleared::Refused(Fault::WrongLength);
     }
     if places != paper::MOST {
+        return Cleared::Refused(Fault::WrongLength);
+    }
+    if 1000 < asked.share {
         return Cleared::Refused(Fault::WrongLength);
     }
     if !low_latencies(latencies) {

@@ -1,12 +1,12 @@
 -- All that a call leaves behind: the paper's answer, in both slices.
 use Prim.Native.Nat.{ℕ}
-use mathlib.Core.List.{List, [], _∷_}
+use mathlib.Core.List.{List}
 use mathlib.Core.Bool.{cond}
 use lib.ListN.{length, replicate}
 use lib.IntN.{ℤ, pos}
 use Rattle.paper.specs.Clock as paper
 use Rattle.paper.specs.Clock.{settled, impossible}
-use Rattle.engine.specs.Promise.{waitsOf, allAre}
+use Rattle.engine.specs.Promise.{waitsOf, fitting}
 use Rattle.clock.specs.declared.Settled.{Settled}
 use Rattle.clock.specs.declared.Settled.the-variants.{Rounds, Impossible, Misfit}
 
@@ -19,8 +19,8 @@ answered n impossible = outcome Impossible (replicate n (pos 0)) (replicate n (p
 answered n (settled k xs) = outcome (Rounds k) xs xs
 
 -- the originals are what `times` holds
-unfoldable pub outcomeOf : (before send latency : List ℕ) → (times spare : List ℤ) → Outcome
-outcomeOf before send latency times spare =
-    cond (allAre (length times) (length before ∷ length send ∷ length latency ∷ length spare ∷ []))
-    (answered (length times) (paper.settle (waitsOf times before send latency)))
+unfoldable pub outcomeOf : (before gap send latency : List ℕ) → (times spare : List ℤ) → Outcome
+outcomeOf before gap send latency times spare =
+    cond (fitting before gap send latency times spare)
+    (answered (length times) (paper.settle (waitsOf times before gap send latency)))
     (outcome Misfit times spare)

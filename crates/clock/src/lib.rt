@@ -11,7 +11,7 @@ pub enum Settled {
     Rounds(usize),
     // no times exist; both slices are cleared
     Impossible,
-    // the slices are not of one length
+    // the slices are not of one length, or a gap is wider than any between two times
     Misfit,
 }
 
@@ -26,18 +26,19 @@ fn clear(times: &mut [i64])
 }
 
 // The least sound times of the records whose originals are in `times`, into `times` and `spare`; where there are none, nothing is
-// left in them. Record i waits for the record at before[i], the one before it on its processor, and for its send at send[i] with
-// latency[i]; a place past the end is none.
+// left in them. Record i waits for the record at before[i], the one before it on its processor, with gap[i], and for its send at send[i]
+// with latency[i]; a place past the end is none.
 pub fn settle(
     before: &[u32],
+    gap: &[u64],
     send: &[u32],
     latency: &[u32],
     times: &mut [i64],
     spare: &mut [i64],
 ) -> Settled
-    ensures { λ r. ⌜ outcome r (now (times .exit)) (now (spare .exit)) ≡ outcomeOf (now (before .entry)) (now (send .entry)) (now (latency .entry)) (now (times .entry)) (now (spare .entry)) ⌝ }
+    ensures { λ r. ⌜ outcome r (now (times .exit)) (now (spare .exit)) ≡ outcomeOf (now (before .entry)) (now (gap .entry)) (now (send .entry)) (now (latency .entry)) (now (times .entry)) (now (spare .entry)) ⌝ }
 {
-    let run = engine::run_rounds(before, send, latency, times, spare);
+    let run = engine::run_rounds(before, gap, send, latency, times, spare);
     match run {
         Run::At(k) => Settled::Rounds(k),
         Run::Never => {

@@ -53,19 +53,38 @@ fn show(answer: Settled, times: &[i64]) {
     }
 }
 
-fn answered(before: &[u32], send: &[u32], latency: &[u32], times: &mut [i64], spare: &mut [i64]) {
-    let answer = clock::settle(before, send, latency, times, spare);
+fn answered(
+    before: &[u32],
+    gap: &[u64],
+    send: &[u32],
+    latency: &[u32],
+    times: &mut [i64],
+    spare: &mut [i64],
+) {
+    let answer = clock::settle(before, gap, send, latency, times, spare);
     show(answer, times);
 }
 
-fn run(name: &[u8], times: &mut [i64], before: &[u32], send: &[u32], latency: &[u32]) {
+fn keeping(
+    name: &[u8],
+    times: &mut [i64],
+    before: &[u32],
+    gap: &[u64],
+    send: &[u32],
+    latency: &[u32],
+) {
     let mut spare = [0i64; SIZE];
     let n = times.len();
     if n > SIZE {
         return;
     }
     word(name);
-    answered(before, send, latency, times, &mut spare[0..n]);
+    answered(before, gap, send, latency, times, &mut spare[0..n]);
+}
+
+// No gaps are lent, and none is kept.
+fn run(name: &[u8], times: &mut [i64], before: &[u32], send: &[u32], latency: &[u32]) {
+    keeping(name, times, before, &[], send, latency);
 }
 
 // Trace A, all latencies the same, and its first three lines.
@@ -76,6 +95,18 @@ fn trace_a(name: &[u8], latency: u32) {
         &[NONE, 0, NONE, 2, 1],
         &[NONE, NONE, 0, NONE, 3],
         &[latency; 5],
+    );
+}
+
+// Trace A under latencies of 5, with these gaps from line 1 to 2, from 3 to 4 and from 2 to 5.
+fn kept_a(name: &[u8], first: u64, second: u64, third: u64) {
+    keeping(
+        name,
+        &mut [10, 12, 9, 11, 13],
+        &[NONE, 0, NONE, 2, 1],
+        &[0, first, 0, second, third],
+        &[NONE, NONE, 0, NONE, 3],
+        &[5; 5],
     );
 }
 
@@ -105,6 +136,18 @@ fn turned_b(name: &[u8]) {
         name,
         &mut [3, 4, 1, 2],
         &[NONE, 0, NONE, 2],
+        &[3, NONE, 1, NONE],
+        &[0; 4],
+    );
+}
+
+// Trace B with latencies of 0 and a gap on either processor.
+fn kept_b(name: &[u8], gap: u64) {
+    keeping(
+        name,
+        &mut [1, 2, 3, 4],
+        &[NONE, 0, NONE, 2],
+        &[0, gap, 0, gap],
         &[3, NONE, 1, NONE],
         &[0; 4],
     );
@@ -166,6 +209,29 @@ fn lowest(name: &[u8]) {
     );
 }
 
+fn too_few(name: &[u8]) {
+    keeping(
+        name,
+        &mut [1, 2, 3, 4],
+        &[NONE, 0, NONE, 2],
+        &[0, 0, 0],
+        &[3, NONE, 1, NONE],
+        &[0; 4],
+    );
+}
+
+// Two records of a processor at the ends of the format, and a gap between them.
+fn ends(name: &[u8], gap: u64) {
+    keeping(
+        name,
+        &mut [-999_999_999_999_999, 999_999_999_999_999],
+        &[NONE, 0],
+        &[0, gap],
+        &[NONE, NONE],
+        &[0, 0],
+    );
+}
+
 fn empty(name: &[u8]) {
     run(name, &mut [], &[], &[], &[]);
 }
@@ -184,6 +250,18 @@ fn samples() {
     trace_b(b"P7 ", 1);
 }
 
+fn gaps() {
+    kept_a(b"A, half the gaps kept: ", 1, 1, 0);
+    kept_a(b"A, all gaps kept: ", 2, 2, 1);
+    kept_b(b"B, gaps of 0: ", 0);
+    kept_b(b"B, gaps of 1: ", 1);
+    kept_b(b"B, gaps past the limit: ", 600_000_000_000_000);
+    too_few(b"B, a gap too few: ");
+    ends(b"widest gap: ", 1_999_999_999_999_998);
+    ends(b"a wider gap: ", 1_999_999_999_999_999);
+    ends(b"the largest number: ", 18_446_744_073_709_551_615);
+}
+
 fn long_waits() {
     turned_b(b"B with lines 3 and 4 first: ");
     ring(b"ring of 64, latencies 0: ", 0);
@@ -200,6 +278,7 @@ fn edges() {
 
 fn main() {
     samples();
+    gaps();
     long_waits();
     edges();
 }

@@ -13,7 +13,7 @@ use Rattle.named.specs.Values.{written}
 use Rattle.flags.specs.Plan.{bad, missing}
 use Rattle.complaint.specs.Complaint.{visible, allVisible, wordShown, lineOf, complaintOf}
 use Rattle.named.specs.declared.Name.{Name}
-use Rattle.named.specs.declared.Name.the-variants.{Choice, Trace, Table, Levels, Statistics, Out}
+use Rattle.named.specs.declared.Name.the-variants.{Choice, Trace, Table, Levels, Statistics, Share, Out}
 
 -- what is shown of a byte is no line feed
 visible-high : (b : ℕ) → 33 ≤ visible b
@@ -45,4 +45,5 @@ missing-line Trace = refl
 missing-line Table = refl
 missing-line Levels = refl
 missing-line Statistics = refl
+missing-line Share = refl
 missing-line Out = refl

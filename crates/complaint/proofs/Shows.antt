@@ -17,7 +17,7 @@ use Rattle.complaint.specs.Complaint.{visible, allVisible, wordShown, co
 use Rattle.complaint.specs.Parts.{ShownPart, placeOf}
 use Rattle.named.specs.declared.Span.{Span}
 use Rattle.named.specs.declared.Name.{Name}
-use Rattle.named.specs.declared.Name.the-variants.{Choice, Trace, Table, Levels, Statistics, Out}
+use Rattle.named.specs.declared.Name.the-variants.{Choice, Trace, Table, Levels, Statistics, Share, Out}
 use Rattle.flags.specs.declared.Plan.{Plan}
 
 -- ---- a byte
@@ -136,13 +136,14 @@ room-left {line = line} span part p q shown long =
     omega (arith, p .ends, q .ends, put-long p, put-long q)
 
 -- a name is shown as it is
-pub name-shown : (name : Name) → wordShown (cut (bytesOf "--choice--trace--table--levels--statistics--out") (placeOf name)) ≡ written name
+pub name-shown : (name : Name) → wordShown (cut (bytesOf "--choice--trace--table--levels--statistics--share--out") (placeOf name)) ≡ written name
 unfolding wordShown allVisible visible cut bytesOf placeOf written
 name-shown Choice = refl
 name-shown Trace = refl
 name-shown Table = refl
 name-shown Levels = refl
 name-shown Statistics = refl
+name-shown Share = refl
 name-shown Out = refl
 
 module _ {line : List ℕ} {plan : Plan} {room : List ℕ} {end : ℕ} {after : List ℕ} where

@@ -6,7 +6,7 @@ use lib.ListN.{take}
 use Rattle.named.specs.Parts.{cut, Within}
 use Rattle.named.specs.declared.Span.{Span}
 use Rattle.named.specs.declared.Name.{Name}
-use Rattle.named.specs.declared.Name.the-variants.{Choice, Trace, Table, Levels, Statistics, Out}
+use Rattle.named.specs.declared.Name.the-variants.{Choice, Trace, Table, Levels, Statistics, Share, Out}
 
 -- as much of a span as the line has and as is shown
 pub record ShownPart (line : List ℕ) (span part : Span) : Type 0 where
@@ -21,4 +21,5 @@ placeOf Trace = record { from = 8; to = 15 }
 placeOf Table = record { from = 15; to = 22 }
 placeOf Levels = record { from = 22; to = 30 }
 placeOf Statistics = record { from = 30; to = 42 }
-placeOf Out = record { from = 42; to = 47 }
+placeOf Share = record { from = 42; to = 49 }
+placeOf Out = record { from = 49; to = 54 }

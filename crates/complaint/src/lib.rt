@@ -11,12 +11,12 @@ pub fn complaint(line: &[u8], plan: Plan, room: &mut [u8; 256]) -> usize
     match plan {
         Plan::Bad(word) => put::put_line(room, b"bad argument ", line, word),
         Plan::Missing(name) => {
-            // all six names, of which one is shown
+            // all seven names, of which one is shown
             let place = put::place_of(name);
             put::put_line(
                 room,
                 b"missing argument ",
-                b"--choice--trace--table--levels--statistics--out",
+                b"--choice--trace--table--levels--statistics--share--out",
                 place,
             )
         }

@@ -91,6 +91,7 @@ pub(crate) fn place_of(name: Name) -> Span
         Name::Table => Span { from: 15, to: 22 },
         Name::Levels => Span { from: 22, to: 30 },
         Name::Statistics => Span { from: 30, to: 42 },
-        Name::Out => Span { from: 42, to: 47 },
+        Name::Share => Span { from: 42, to: 49 },
+        Name::Out => Span { from: 49, to: 54 },
     }
 }

@@ -112,7 +112,7 @@ module _ (i : Inputs) (a : Accepted i) where
         moves = verdict-is .moves;
         consistent = rw matched-is (verdict-is .consistent);
         places = rw (times-are i a, length-append, length-drop)
-            (omega (arith, a .matched .compared .levelled .read .begun .lengths .1, size i a, few-entries (a .choice) (most (given i)) (i .trace) (a .matched .compared .levelled .read .whole)));
+            (omega (arith, a .matched .compared .levelled .read .begun .sizes .1, size i a, few-entries (a .choice) (most (given i)) (i .trace) (a .matched .compared .levelled .read .whole)));
         later = later;
         writes = rw corrected-are written-trace;
         written-length = rw corrected-are written-is;

@@ -31,7 +31,7 @@ use Rattle.demands.specs.Demand2.{SameButStamps, Again, Steady}
 use Rattle.demands.proofs.Tests.{same-most}
 use Rattle.demands.proofs.Switched.{heard-off, heard-low, levels-off, none-compared, nothing-else}
 use Rattle.demands.proofs.InOrder.{originals-range, originals-place}
-use Rattle.demands.proofs.Allowed.{sound-allowed, still}
+use Rattle.demands.proofs.Allowed.{sound-keeping}
 use Rattle.demands.proofs.Times.{one-choice, answer, size, listed-is, time-is}
 use Rattle.demands.proofs.Refusals.{accepted-exactly}
 use Rattle.demands.proofs.Accepted.{corrected-are, written-trace, written-length, matched-is, unreceived-is, passed-is, along-trace, rounds-are, accepted-answer}
@@ -53,7 +53,7 @@ module _ (i : Inputs) (a : Accepted i) where
   written-bytes = writtenFrom (a .choice) (linesOf (i .trace)) (a .times)
 
   allowed : Allowed (i .latencies) es (timeAt (a .times))
-  allowed = sound-allowed (i .latencies) es (answer i a .least .sound)
+  allowed = sound-keeping (i .asked .share) (i .latencies) es (answer i a .least .sound) .allowed
 
   rise : Rises (start .last) es (a .times)
   rise =
@@ -125,7 +125,7 @@ module _ (i : Inputs) (a : Accepted i) (wanted : i .wanted ≡ true) (short : wr
               read = record {
                 begun = record {
                   chosen = ap heard (g .asked) ∙ heard-off (i .asked) (heard-low (i .asked) (begun .chosen)) ∙ begun .chosen;
-                  lengths = (rw (g .latencies) (begun .lengths .0), g .places ∙ begun .lengths .1 ∙ sym same-limit);
+                  sizes = (rw (g .latencies) (begun .sizes .0), g .places ∙ begun .sizes .1 ∙ sym same-limit, rw (g .asked) (begun .sizes .2));
                   low = rw (g .latencies) (begun .low);
                   short = rw (g .trace, written-length i a) short;
                 };
@@ -139,7 +139,8 @@ module _ (i : Inputs) (a : Accepted i) (wanted : i .wanted ≡ true) (short : wr
           };
           matches = same-matched (entries j (a .choice)) (es i a) alike-entries ∙ m .matches;
         };
-        settles = rw (entries-are, g .latencies) (written-settle (i .latencies) (es i a) (a .times) (size i a) (allowed i a));
+        settles = rw (entries-are, g .latencies, g .asked)
+            (written-settle (i .latencies) (es i a) (a .times) (size i a) (allowed i a) (i .asked .share) (begun .sizes .2));
         room = room-again _ refl;
       }
 

@@ -1,77 +1,90 @@
 -- The times that the demand speaks of are the paper's sound times.
-use Prim.Native.Nat.{ℕ, zero, suc, _+_, _*_, _≤_, _<_}
+use Prim.Native.Nat.{ℕ, _+_, _*_, _≤_, _<_}
 use native.Mathlib.Omega.{arith}
-use native.Mathlib.Decide.{decLt}
-use mathlib.Core.Path.{_≡_, refl, sym, _∙_}
-use mathlib.Core.Option.{Option, none, some}
+use mathlib.Core.Path.{_≡_}
+use mathlib.Core.Option.{some}
 use mathlib.Core.List.{List}
 use lib.ListN.{length, getD}
-use lib.IntN.{ℤ}
+use lib.IntN.{ℤ, pos, _+ℤ_}
 use lib.Signed.{_≤ℤ_}
+use Rattle.paper.specs.Gaps.{gapOf}
 use Rattle.paper.specs.Clock.{Sound, Least, settle, settled, listed}
-use Rattle.paper.specs.Matching.{sendOf, lastOn, latencyFor, waitsOf}
+use Rattle.paper.specs.Matching.{sendOf, lastOn, latencyFor, gapFrom, waitsOf}
 use Rattle.paper.specs.declared.Entry.{Entry}
 use Rattle.matching.proofs.Belong.{processorAt, roleAt, belongs}
-use Rattle.matching.proofs.Before.{LastOn, last-on, none-on}
-use Rattle.rounds.proofs.Order.{plus-none, ≤ℤ-trans}
+use Rattle.matching.proofs.Before.{LastOn, last-on, on-last, any-two}
+use Rattle.rounds.proofs.Order.{≤ℤ-trans, sum-up}
+use Rattle.rounds.proofs.Gaps.{own-gap}
 use Rattle.rounds.proofs.Still.{still-settled}
 use Rattle.demands.specs.Steps.{original}
-use Rattle.demands.specs.Demand3.{Allowed, Earliest}
+use Rattle.demands.specs.Demand3.{Allowed, DirectlyBefore, Keeping, Earliest}
 use Rattle.demands.proofs.Closed.{waits-closed}
 
-module _ (table : List ℕ) (es : List Entry) where
+-- ---- the record before on the processor, which is waited for
+
+module _ (es : List Entry) where
+  pub directly : (j k : ℕ) → LastOn es (processorAt es k) k j → DirectlyBefore es j k
+  directly j k f = record { before = f .before; on = f .on; none-between = λ m a b. f .none-between m a (omega (arith, f .before, b)) }
+
+  waited-for : (j k : ℕ) → DirectlyBefore es j k → lastOn es (processorAt es k) k ≡ some j
+  waited-for j k d =
+      on-last es (processorAt es k) k j
+      (record { before = d .before; on = d .on; none-between = λ m a b. d .none-between m a (omega (arith, a, b)) })
+
+module _ (share : ℕ) (table : List ℕ) (es : List Entry) where
   -- "the entry at 64 times sender plus receiver"
-  latency-at : (j k : ℕ) → sendOf es k ≡ some j → latencyFor table (processorAt es k) (roleAt es k) ≡ getD table (64 * processorAt es j + processorAt es k) 0
+  latency-at : (j k : ℕ) → sendOf es k ≡ some j
+      → latencyFor table (processorAt es k) (roleAt es k) ≡ getD table (64 * processorAt es j + processorAt es k) 0
   unfolding latencyFor
   latency-at j k e = let b = belongs es k j e in rw (b .receives, b .from)
 
-  pub allowed-sound : {x : ℕ → ℤ} → Allowed table es x → Sound (waitsOf table es) x
+  gap-at : (j k : ℕ) → lastOn es (processorAt es k) k ≡ some j
+      → gapFrom share es k (lastOn es (processorAt es k) k) ≡ gapOf share (original es j) (original es k)
+  unfolding gapFrom
+  gap-at j k e = rw e
+
+  pub keeping-sound : {x : ℕ → ℤ} → Keeping share table es x → Sound (waitsOf share table es) x
   unfolding waitsOf
-  allowed-sound {x} a =
+  keeping-sound {x} a =
       record {
-        above = a .above;
-        within = a .format;
-        order = λ k j l e. let b = last-on es (processorAt es k) k j e in rw (plus-none (x j)) (a .order j k (b .before) l (b .on));
-        clock = λ k j l e. rw (latency-at j k e) (a .clock j k l e);
+        above = a .allowed .above;
+        within = a .allowed .format;
+        order = λ k j l e. rw (gap-at j k e) (a .gaps j k l (directly es j k (last-on es (processorAt es k) k j e)));
+        clock = λ k j l e. rw (latency-at j k e) (a .allowed .clock j k l e);
       }
 
-  module _ {x : ℕ → ℤ} (s : Sound (waitsOf table es) x) where
-    -- back from record k to record j, one wait at a time; the steps are at most n
-    order-stays : (n j k : ℕ) → k ≤ n → j < k → k < length es → processorAt es j ≡ processorAt es k → x j ≤ℤ x k
+  module _ {x : ℕ → ℤ} (s : Sound (waitsOf share table es) x) where
+    kept : (j k : ℕ) → k < length es → DirectlyBefore es j k → (x j +ℤ pos (gapOf share (original es j) (original es k))) ≤ℤ x k
     unfolding waitsOf
-    order-stays zero j k m b l e = absurd (omega arith)
-    order-stays (suc n) j k m b l e =
-        go (λ p c d. order-stays n j p (omega arith) c (omega arith)) (lastOn es (processorAt es k) k) refl
-      where
-        step : ((p : ℕ) → j < p → p < k → processorAt es j ≡ processorAt es p → x j ≤ℤ x p) → (p : ℕ)
-            → LastOn es (processorAt es k) k p → x p ≤ℤ x k → Dec (j < p) → x j ≤ℤ x k
-        step earlier p f up (yes c) = ≤ℤ-trans (earlier p c (f .before) (e ∙ sym (f .on))) up
-        step earlier p f up (no c) =
-            let between : ¬ (p < j) = λ d. f .none-between j d b e in
-            let same : p ≡ j = omega arith in
-            rw same at up
+    kept j k l d = let e = waited-for es j k d in rw (gap-at j k e) at (s .order k j l e)
 
-        go : ((p : ℕ) → j < p → p < k → processorAt es j ≡ processorAt es p → x j ≤ℤ x p) → (o : Option ℕ)
-            → lastOn es (processorAt es k) k ≡ o → x j ≤ℤ x k
-        go earlier none q = absurd (none-on es (processorAt es k) k q j b e)
-        go earlier (some p) q =
-            step earlier p (last-on es (processorAt es k) k p q) (rw (plus-none (x p)) at (s .order k p l q)) (decLt j p)
+    up : (j k : ℕ) → k < length es → DirectlyBefore es j k → x j ≤ℤ x k
+    up j k l d = ≤ℤ-trans (sum-up (x j) _) (kept j k l d)
 
-    pub sound-allowed : Allowed table es x
+    pub sound-keeping : Keeping share table es x
     unfolding waitsOf
-    sound-allowed =
+    sound-keeping =
         record {
-          format = s .within;
-          above = s .above;
-          order = λ j k b l e. order-stays k j k (omega arith) b l e;
-          clock = λ j k l e. rw (← latency-at j k e) (s .clock k j l e);
+          allowed = record {
+            format = s .within;
+            above = s .above;
+            order = any-two es (length es) (λ j k. x j ≤ℤ x k) (λ j m k. ≤ℤ-trans) (λ j k l f. up j k l (directly es j k f));
+            clock = λ j k l e. rw (← latency-at j k e) (s .clock k j l e);
+          };
+          gaps = kept;
         }
 
-  pub least-earliest : {x : ℕ → ℤ} → Least (waitsOf table es) x → Earliest table es x
+  pub least-earliest : {x : ℕ → ℤ} → Least (waitsOf share table es) x → Earliest share table es x
   unfolding waitsOf
-  least-earliest l = record { allowed = sound-allowed (l .sound); earliest = λ y a. l .least y (allowed-sound a) }
+  least-earliest l = record { keeping = sound-keeping (l .sound); earliest = λ y a. l .least y (keeping-sound a) }
 
-  -- originals that are allowed settle in no round
-  pub still : Allowed table es (original es) → settle (waitsOf table es) ≡ settled 0 (listed (length es) (original es))
+  -- originals that document 01 allows keep every share of their own gaps, and so they settle in no round
+  pub still : share ≤ 1000 → Allowed table es (original es) → settle (waitsOf share table es) ≡ settled 0 (listed (length es) (original es))
   unfolding waitsOf
-  still a = still-settled (waitsOf table es) (waits-closed table es) (allowed-sound a)
+  still low a =
+      still-settled (waitsOf share table es) (waits-closed share table es)
+      (keeping-sound
+      (record {
+        allowed = a;
+        gaps = λ j k l d. own-gap share (original es j) (original es k) low (a .order j k (d .before) l (d .on));
+      }))

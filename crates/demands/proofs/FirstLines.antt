@@ -8,6 +8,7 @@ use Rattle.paper.specs.Clock.{settled, settle}
 use Rattle.paper.specs.Reading.{linesOf, Reading, readOf}
 use Rattle.paper.specs.Matching.{matchedOf, waitsOf}
 use Rattle.paper.specs.Answer.{Inputs, given, most}
+use Rattle.paper.specs.declared.Asked.{Asked}
 use Rattle.paper.specs.declared.Choice.{Choice}
 use Rattle.paper.specs.declared.Entry.{Entry}
 use Rattle.paper.specs.declared.Stop.{Stop}
@@ -51,9 +52,10 @@ more-entries choice most most′ s more t joined e e′ =
 
 -- ---- their waits, and so their times, stay
 
-waits-first : (table : List ℕ) (es later : List Entry) → matchedOf es ≡ End → First (waitsOf table es) (waitsOf table (es ++ later))
-waits-first table es later e =
-    let b = waits-begin es later table e in
+waits-first : (share : ℕ) (table : List ℕ) (es later : List Entry) → matchedOf es ≡ End
+    → First (waitsOf share table es) (waitsOf share table (es ++ later))
+waits-first share table es later e =
+    let b = waits-begin es later share table e in
     record {
       size = b .size;
       original = λ k l. sym (b .original k l);
@@ -79,8 +81,12 @@ module _ (i j : Inputs) (longer : Longer i j) (a : Accepted i) (b : Accepted j) 
       let (later, e) = whole-entries in
       let inside : k < length es = rw (← listed-is i a) l in
       let inside-whole : k < length (entries j (b .choice)) = rw (whole-choice, e, length-append es later) (omega arith) in
-      let settles-whole : settle (waitsOf (i .latencies) (es ++ later)) ≡ settled (b .rounds) (b .times) = rw (← e, ← longer .latencies, ← whole-choice) (b .settles) in
+      let share = i .asked .share in
+      let table = i .latencies in
+      let same-share : j .asked .share ≡ i .asked .share = ap (λ (x : Asked). x .share) (longer .asked) in
+      let settles-whole : settle (waitsOf (i .asked .share) (i .latencies) (es ++ later)) ≡ settled (b .rounds) (b .times) =
+      rw (← e, ← longer .latencies, ← same-share, ← whole-choice) (b .settles) in
       time-is i a k inside
-      ∙ first-times (waits i (a .choice)) (waitsOf (i .latencies) (es ++ later)) (waits-first (i .latencies) es later (a .matched .matches))
-      (waits-closed (i .latencies) es) (waits-closed (i .latencies) (es ++ later)) settles-whole (a .settles) k inside
+      ∙ first-times (waits i (a .choice)) (waitsOf share table (es ++ later)) (waits-first share table es later (a .matched .matches))
+      (waits-closed share table es) (waits-closed share table (es ++ later)) settles-whole (a .settles) k inside
       ∙ sym (time-is j b k inside-whole)

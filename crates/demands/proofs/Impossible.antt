@@ -18,11 +18,11 @@ use Rattle.paper.specs.declared.Site.{Site}
 use Rattle.demands.specs.Steps.{entries, Matched, waits}
 use Rattle.demands.specs.Table.{When}
 use Rattle.demands.specs.Parts.{number, site}
-use Rattle.demands.specs.Demand3.{Allowed}
+use Rattle.demands.specs.Demand3.{Keeping}
 use Rattle.demands.proofs.Refusals.{accepted-exactly, refused-exactly}
 use Rattle.demands.proofs.Reached.{foundBy, reach-times, reach-found}
 use Rattle.demands.proofs.Judged.{judge-stopped, judge-room}
-use Rattle.demands.proofs.Allowed.{allowed-sound, sound-allowed}
+use Rattle.demands.proofs.Allowed.{keeping-sound, sound-keeping}
 use Rattle.demands.proofs.Times.{one-choice}
 
 module _ (i : Inputs) where
@@ -54,14 +54,14 @@ module _ (i : Inputs) where
       go (settled rounds times) e = on-room rounds times e _ refl
 
   pub impossible-exactly : (choice : Choice) → Matched i choice
-      → (number i ≡ 15) ↔ ((x : ℕ → ℤ) → Allowed (i .latencies) (entries i choice) x → ⊥)
+      → (number i ≡ 15) ↔ ((x : ℕ → ℤ) → Keeping (i .asked .share) (i .latencies) (entries i choice) x → ⊥)
   impossible-exactly choice m = (to, of)
     where
-      to : number i ≡ 15 → (x : ℕ → ℤ) → Allowed (i .latencies) (entries i choice) x → ⊥
+      to : number i ≡ 15 → (x : ℕ → ℤ) → Keeping (i .asked .share) (i .latencies) (entries i choice) x → ⊥
       to e =
           let (c, n, none-sound) = impossible-matched e in
           let same : c ≡ choice = one-choice i c choice (n .compared .levelled .read .begun .chosen) (m .compared .levelled .read .begun .chosen) in
-          λ x a. (rw same at none-sound) x (allowed-sound (i .latencies) (entries i choice) a)
+          λ x a. (rw same at none-sound) x (keeping-sound (i .asked .share) (i .latencies) (entries i choice) a)
 
-      of : ((x : ℕ → ℤ) → Allowed (i .latencies) (entries i choice) x → ⊥) → number i ≡ 15
-      of none-allowed = matched-impossible choice m (λ x s. none-allowed x (sound-allowed (i .latencies) (entries i choice) s))
+      of : ((x : ℕ → ℤ) → Keeping (i .asked .share) (i .latencies) (entries i choice) x → ⊥) → number i ≡ 15
+      of none-keeping = matched-impossible choice m (λ x s. none-keeping x (sound-keeping (i .asked .share) (i .latencies) (entries i choice) s))

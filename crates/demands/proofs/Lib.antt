@@ -1,5 +1,7 @@
--- `Demands` has the three theorems, and `Switched` one on the comparison of statistics; the other files what they need, from the tests up.
+-- `Demands` has the three theorems, `Switched` one on the comparison of statistics and `Shares` one on the share; the other files what they
+-- need, from the tests up.
 pub mod Tests
+pub mod Named
 pub mod Numbers
 pub mod Stops
 pub mod Reached
@@ -27,6 +29,7 @@ pub mod Allowed
 pub mod Times
 pub mod Impossible
 pub mod FirstLines
+pub mod OneTrace
 pub mod Raised
 pub mod Unmatched
 pub mod Verdicts
@@ -39,4 +42,5 @@ pub mod Rising
 pub mod Reread
 pub mod Resettled
 pub mod Again
+pub mod Shares
 pub mod Demands

@@ -15,9 +15,9 @@ use Rattle.paper.specs.declared.Choice.{Choice}
 use Rattle.paper.specs.declared.Fault.{Fault}
 use Rattle.paper.specs.declared.Fault.the-variants as Fault
 use Rattle.paper.specs.declared.Site.{Site}
-use Rattle.demands.specs.Steps.{Chosen, RightLengths, LowLatencies, ShortTrace, Begun, reading, entries, Read, Levelled, Compared, Matched, waits}
+use Rattle.demands.specs.Steps.{Chosen, RightSizes, LowLatencies, ShortTrace, Begun, reading, entries, Read, Levelled, Compared, Matched, waits}
 use Rattle.demands.proofs.Stops.{BadLine, BadLevels, BadStatistics, BadReceive}
-use Rattle.demands.proofs.Tests.{not-told, lengths-tell, lows-tell, short-tells}
+use Rattle.demands.proofs.Tests.{not-told, sizes-tell, lows-tell, short-tells}
 
 -- what a call has found that settles so
 abbrev pub foundBy : Inputs → Choice → ℕ → List ℤ → Found
@@ -29,23 +29,23 @@ module _ (i : Inputs) where
   reach-choice e = rw e
 
   module _ (choice : Choice) (chosen : Chosen i choice) where
-    pub reach-length : ¬ RightLengths i → reach (given i) ≡ stopped Fault.WrongLength nowhere
+    pub reach-length : ¬ RightSizes i → reach (given i) ≡ stopped Fault.WrongLength nowhere
     unfolding reach onChoice
-    reach-length l = rw (chosen, not-told (lengths-tell i) l)
+    reach-length l = rw (chosen, not-told (sizes-tell i) l)
 
-    module _ (lengths : RightLengths i) where
+    module _ (sizes : RightSizes i) where
       pub reach-latency : ¬ LowLatencies i → reach (given i) ≡ stopped Fault.HighLatency nowhere
       unfolding reach onChoice
-      reach-latency h = rw (chosen, lengths-tell i .told lengths, not-told (lows-tell i) h)
+      reach-latency h = rw (chosen, sizes-tell i .told sizes, not-told (lows-tell i) h)
 
       pub reach-long : LowLatencies i → ¬ ShortTrace i → reach (given i) ≡ stopped Fault.LongTrace nowhere
       unfolding reach onChoice
-      reach-long low h = rw (chosen, lengths-tell i .told lengths, lows-tell i .told low, not-told (short-tells i) h)
+      reach-long low h = rw (chosen, sizes-tell i .told sizes, lows-tell i .told low, not-told (short-tells i) h)
 
   module _ (choice : Choice) where
     reach-begun : Begun i choice → reach (given i) ≡ onRead (given i) choice (reading i choice) (reading i choice .stop)
     unfolding reach onChoice
-    reach-begun b = rw (b .chosen, lengths-tell i .told (b .lengths), lows-tell i .told (b .low), short-tells i .told (b .short))
+    reach-begun b = rw (b .chosen, sizes-tell i .told (b .sizes), lows-tell i .told (b .low), short-tells i .told (b .short))
 
     reach-read : Read i choice → reach (given i) ≡ onLevels (given i) choice (reading i choice) (levelsOf (i .asked) (entries i choice))
     unfolding onRead

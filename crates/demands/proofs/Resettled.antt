@@ -1,5 +1,6 @@
--- Times that are allowed, taken as the originals of the same records, are allowed again, and so they settle in no round.
-use Prim.Native.Nat.{ℕ, _<_}
+-- Times that are allowed, taken as the originals of the same records, are allowed again, and so they settle in no round: whatever share of
+-- their own gaps is to be kept, for they keep all of them.
+use Prim.Native.Nat.{ℕ, _≤_, _<_}
 use native.Mathlib.Omega.{arith}
 use mathlib.Core.Path.{_≡_, sym, ap, _∙_}
 use mathlib.Core.List.{List}
@@ -46,7 +47,7 @@ module _ (table : List ℕ) (es : List Entry) (ts : List ℤ) (n : length ts ≡
             rw (there j inside, there k l, same-place j, same-place k) (allowed .clock j k (rw (← same-size fs es alike) l) sent);
       }
 
-  pub written-settle : settle (waitsOf table fs) ≡ settled 0 ts
-  written-settle =
-      still table fs written-allowed
+  pub written-settle : (share : ℕ) → share ≤ 1000 → settle (waitsOf share table fs) ≡ settled 0 ts
+  written-settle share low =
+      still share table fs low written-allowed
       ∙ ap (settled 0) (listed-same (length fs) (original fs) (timeAt ts) there ∙ rw (same-size fs es alike, ← n) (listed-times ts))

@@ -15,7 +15,7 @@ use Rattle.paper.specs.Levels.{levelsOf}
 use Rattle.paper.specs.Statistics.{statisticsOf}
 use Rattle.paper.specs.Matching.{matchedOf}
 use Rattle.paper.specs.Clock.{Settled, impossible, settled, settle}
-use Rattle.paper.specs.Answer.{Inputs, given, longest, heard, rightLengths, lowLatencies, stopped, reach}
+use Rattle.paper.specs.Answer.{Inputs, given, longest, heard, rightSizes, lowLatencies, stopped, reach}
 use Rattle.paper.specs.declared.Choice.{Choice}
 use Rattle.paper.specs.declared.Fault.{Fault}
 use Rattle.paper.specs.declared.Fault.the-variants as Fault
@@ -23,11 +23,11 @@ use Rattle.paper.specs.declared.Site.{Site}
 use Rattle.paper.specs.declared.Stop.{Stop}
 use Rattle.paper.specs.declared.Stop.the-variants.{End, At}
 use Rattle.rounds.proofs.Meaning.{impossible-iff}
-use Rattle.demands.specs.Steps.{Chosen, RightLengths, LowLatencies, Begun, reading, entries, Read, Levelled, Compared, Matched, waits}
+use Rattle.demands.specs.Steps.{Chosen, RightSizes, LowLatencies, Begun, reading, entries, Read, Levelled, Compared, Matched, waits}
 use Rattle.demands.specs.Rows.{BadForm, BadStamp, UnlistedStrict, NotHandled, BadPlace, NoMessage, NoSend, LongReceive}
 use Rattle.demands.specs.Table.{When}
 use Rattle.demands.proofs.Stops.{OfALine, BadLine}
-use Rattle.demands.proofs.Tests.{untold, lengths-tell, lows-tell, short-tells, unchosen, neither}
+use Rattle.demands.proofs.Tests.{untold, sizes-tell, lows-tell, short-tells, unchosen, neither}
 use Rattle.demands.proofs.Closed.{waits-closed}
 use Rattle.demands.proofs.LineRows.{form-row, stamp-row, strict-row, handled-row, place-row, message-row}
 use Rattle.demands.proofs.ReceiveRows.{no-send-calls, long-receive-calls}
@@ -51,7 +51,7 @@ module _ (i : Inputs) where
   module _ (choice : Choice) where
     on-times : Matched i choice → (s : Settled) → settle (waits i choice) ≡ s → Timed i ⊎ Row
     unfolding When
-    on-times m impossible e = inr (Fault.NoTimes, nowhere, (choice, m, impossible-iff (waits i choice) (waits-closed (i .latencies) (entries i choice)) .0 e, refl))
+    on-times m impossible e = inr (Fault.NoTimes, nowhere, (choice, m, impossible-iff (waits i choice) (waits-closed (i .asked .share) (i .latencies) (entries i choice)) .0 e, refl))
     on-times m (settled rounds times) e = inl (record { choice = choice; rounds = rounds; times = times; matched = m; settles = e })
 
     on-receives : Compared i choice → (s : Stop) → matchedOf (entries i choice) ≡ s → Timed i ⊎ Row
@@ -74,25 +74,25 @@ module _ (i : Inputs) where
     on-lines b (At fault s) e =
         inr (fault, s, when-line i fault s (record { choice = choice; begun = b; stops = e }))
 
-    on-size : Chosen i choice → RightLengths i → LowLatencies i → (b : Bool) → leb (length (i .trace)) longest ≡ b → Timed i ⊎ Row
+    on-size : Chosen i choice → RightSizes i → LowLatencies i → (b : Bool) → leb (length (i .trace)) longest ≡ b → Timed i ⊎ Row
     unfolding When
-    on-size c l h true e = on-lines (record { chosen = c; lengths = l; low = h; short = short-tells i .holds e }) _ refl
+    on-size c l h true e = on-lines (record { chosen = c; sizes = l; low = h; short = short-tells i .holds e }) _ refl
     on-size c l h false e = inr (Fault.LongTrace, nowhere, (choice, c, l, h, untold (short-tells i) e, refl))
 
-    on-latencies : Chosen i choice → RightLengths i → (b : Bool) → lowLatencies (i .latencies) ≡ b → Timed i ⊎ Row
+    on-latencies : Chosen i choice → RightSizes i → (b : Bool) → lowLatencies (i .latencies) ≡ b → Timed i ⊎ Row
     unfolding When
     on-latencies c l true e = on-size c l (lows-tell i .holds e) _ refl
     on-latencies c l false e = inr (Fault.HighLatency, nowhere, (choice, c, l, untold (lows-tell i) e, refl))
 
-    on-lengths : Chosen i choice → (b : Bool) → rightLengths (given i) ≡ b → Timed i ⊎ Row
+    on-sizes : Chosen i choice → (b : Bool) → rightSizes (given i) ≡ b → Timed i ⊎ Row
     unfolding When
-    on-lengths c true e = on-latencies c (lengths-tell i .holds e) _ refl
-    on-lengths c false e = inr (Fault.WrongLength, nowhere, (choice, c, untold (lengths-tell i) e, refl))
+    on-sizes c true e = on-latencies c (sizes-tell i .holds e) _ refl
+    on-sizes c false e = inr (Fault.WrongLength, nowhere, (choice, c, untold (sizes-tell i) e, refl))
 
   on-choice : (o : Option Choice) → heard (i .asked) ≡ o → Timed i ⊎ Row
   unfolding When
   on-choice none e = inr (Fault.BadChoice, nowhere, (neither (i .asked) e, refl))
-  on-choice (some choice) e = on-lengths choice e _ refl
+  on-choice (some choice) e = on-sizes choice e _ refl
 
   pub reached : Timed i ⊎ Row
   reached = on-choice _ refl
@@ -148,6 +148,6 @@ module _ (i : Inputs) where
   row-stops Fault.NoSend s (f, e) = inl (reach-receive i Fault.NoSend s (call-stops i s Fault.NoSend NoSend no-send-calls f e))
   row-stops Fault.LongReceive s (f, e) = inl (reach-receive i Fault.LongReceive s (call-stops i s Fault.LongReceive LongReceive long-receive-calls f e))
   row-stops Fault.NoTimes s (choice, m, none-sound, e) =
-      inl (reach-times i choice m (impossible-iff (waits i choice) (waits-closed (i .latencies) (entries i choice)) .1 none-sound)
+      inl (reach-times i choice m (impossible-iff (waits i choice) (waits-closed (i .asked .share) (i .latencies) (entries i choice)) .1 none-sound)
       ∙ ap (stopped Fault.NoTimes) (sym e))
   row-stops Fault.NoRoom s h = inr refl

@@ -1,5 +1,5 @@
 -- "A further number .. switches the comparison", and nothing but that: what a call reaches with it on is 19 or what it reaches with it off.
-use Prim.Native.Nat.{ℕ, zero, suc, _≤_}
+use Prim.Native.Nat.{ℕ, _≤_}
 use native.Mathlib.Omega.{arith}
 use mathlib.Core.Path.{_≡_, refl, ap, _∙_}
 use mathlib.Core.Logic.{_⊎_, inl, inr}
@@ -11,15 +11,12 @@ use lib.Dec.{leb}
 use borrow.Author.Tests.{le-leb, leb-true}
 use Rattle.paper.specs.Numbers.{numberOf}
 use Rattle.paper.specs.Columns.{nowhere}
-use Rattle.paper.specs.Levels.{lastMark, expected, agrees, offAt, levelsFrom, levelsOf}
-use Rattle.paper.specs.Matching.{entryAt}
+use Rattle.paper.specs.Levels.{levelsOf}
 use Rattle.paper.specs.Statistics.{statisticsOf}
-use Rattle.paper.specs.Answer.{Given, Inputs, given, most, longest, choiceOf, heard, rightLengths, lowLatencies, Reached, stopped, found, onMatched, onStatistics, onLevels, onRead, onChoice, reach, refused, accepted, written, onWritten, conclude, judge}
+use Rattle.paper.specs.Answer.{Given, Inputs, given, most, longest, choiceOf, heard, rightSizes, lowLatencies, Reached, stopped, found, onMatched, onStatistics, onLevels, onRead, onChoice, reach, refused, accepted, written, onWritten, conclude, judge}
 use Rattle.paper.specs.Reading.{Reading, readOf}
 use Rattle.paper.specs.declared.Asked.{Asked}
 use Rattle.paper.specs.declared.Choice.{Choice}
-use Rattle.paper.specs.declared.Data.{Data}
-use Rattle.paper.specs.declared.Data.the-variants.{Three, Others}
 use Rattle.paper.specs.declared.Entry.{Entry}
 use Rattle.paper.specs.declared.Fault.{Fault}
 use Rattle.paper.specs.declared.Fault.the-variants as Fault
@@ -30,6 +27,7 @@ use Rattle.forms.proofs.Tests.{never}
 use Rattle.demands.specs.Parts.{number, site}
 use Rattle.demands.specs.Switched.{uncompared, switchedOff, Switched}
 use Rattle.demands.specs.Table.{When}
+use Rattle.demands.proofs.Named.{same-levels}
 use Rattle.demands.proofs.Refusals.{refused-exactly}
 use Rattle.demands.proofs.StatisticsRows.{statistics-row}
 
@@ -54,29 +52,8 @@ pub none-compared : (a : Asked) (trace : List ℕ) (es : List Entry) → statist
 unfolding statisticsOf
 none-compared a trace es = refl
 
-module _ (a : Asked) (es : List Entry) where
-  expected-off : (v : Data) → expected (uncompared a) v ≡ expected a v
-  unfolding expected
-  expected-off (Three picl user trace) = refl
-  expected-off Others = refl
-
-  agrees-off : (o : Option ℕ) → agrees (uncompared a) es o ≡ agrees a es o
-  unfolding agrees
-  agrees-off none = refl
-  agrees-off (some k) = expected-off (entryAt es k .body .values)
-
-  off-off : (p : ℕ) → offAt (uncompared a) es p ≡ offAt a es p
-  unfolding offAt
-  off-off p = rw (agrees-off (lastMark es p (length es)))
-
-  levels-from-off : (n p : ℕ) → levelsFrom (uncompared a) es p n ≡ levelsFrom a es p n
-  unfolding levelsFrom
-  levels-from-off zero p = refl
-  levels-from-off (suc n) p = rw (off-off p, levels-from-off n (suc p))
-
-  pub levels-off : levelsOf (uncompared a) es ≡ levelsOf a es
-  unfolding levelsOf
-  levels-off = rw (levels-from-off 64 0)
+pub levels-off : (a : Asked) (es : List Entry) → levelsOf (uncompared a) es ≡ levelsOf a es
+levels-off a es = same-levels (uncompared a) a (record { levels = refl; picl = refl; user = refl; trace = refl }) es
 
 -- ---- how far a call reaches
 
@@ -116,11 +93,11 @@ behind true x y bad n = n
 behind false x y bad n = inr refl
 
 choice-off : (g : Given) (o : Option Choice) → NineteenOr (onChoice g o) (onChoice (offGiven g) o)
-unfolding onChoice rightLengths most
+unfolding onChoice rightSizes most
 choice-off g none = inr refl
 choice-off g (some choice) =
     let reading = readOf choice (most g) (g .trace) in
-    behind (rightLengths g) _ _ (stopped Fault.WrongLength nowhere)
+    behind (rightSizes g) _ _ (stopped Fault.WrongLength nowhere)
     (behind (lowLatencies (g .latencies)) _ _ (stopped Fault.HighLatency nowhere)
     (behind (leb (length (g .trace)) longest) _ _ (stopped Fault.LongTrace nowhere) (read-off g choice reading (reading .stop))))
 

@@ -1,24 +1,25 @@
 -- Tests and the plain facts that they tell: of signed numbers, of texts, and those of 1 to 4.
-use Prim.Native.Nat.{ℕ, zero, suc, _≤_, _<_}
+use Prim.Native.Nat.{ℕ}
 use native.Mathlib.Omega.{arith}
 use mathlib.Core.Path.{_≡_, refl}
 use mathlib.Core.Bool.{Bool, true, false, cond, _&&_, not}
 use mathlib.Core.Logic.{inl, inr}
 use mathlib.Core.Option.{Option, none}
-use mathlib.Core.List.{List, [], _∷_}
-use lib.ListN.{length, getD}
+use mathlib.Core.List.{List}
+use lib.ListN.{length}
 use lib.IntN.{ℤ}
 use lib.Dec.{leb}
 use borrow.Author.Tests.{eqb-true, eq-eqb, ne-eqb, leb-true, leb-false, le-leb, lt-leb}
 use Rattle.paper.specs.Tests.{eqZ}
 use Rattle.paper.specs.Text.{isSame}
-use Rattle.paper.specs.Answer.{Given, Inputs, given, most, longest, choiceOf, heard, rightLengths, lowLatencies}
+use Rattle.paper.specs.Answer.{Given, Inputs, given, most, longest, choiceOf, heard, rightSizes, lowLatencies}
 use Rattle.paper.specs.declared.Asked.{Asked}
 use Rattle.paper.specs.declared.Choice.{Choice}
 use Rattle.forms.proofs.Tests.{both, never}
+use Rattle.forms.proofs.Bounded.{bounded-holds, bounded-told}
 use Rattle.forms.proofs.Texts.{same-self, same-means}
 use Rattle.matching.proofs.Keys.{eqZ-true, eqZ-same}
-use Rattle.demands.specs.Steps.{Unheard, RightLengths, LowLatencies, ShortTrace}
+use Rattle.demands.specs.Steps.{Unheard, RightSizes, LowLatencies, ShortTrace}
 
 -- a test tells a fact
 pub record Tells (b : Bool) (P : Type 0) : Type 0 where
@@ -51,27 +52,17 @@ same-tells a b = record { holds = eqZ-true a b; told = λ e. rw e (eqZ-same b) }
 pub text-tells : (a b : List ℕ) → Tells (isSame a b) (a ≡ b)
 text-tells a b = record { holds = same-means a b; told = λ e. rw e (same-self b) }
 
-pub lengths-tell : (i : Inputs) → Tells (rightLengths (given i)) (RightLengths i)
-unfolding rightLengths
-lengths-tell i =
+pub sizes-tell : (i : Inputs) → Tells (rightSizes (given i)) (RightSizes i)
+unfolding rightSizes
+sizes-tell i =
     record {
-      holds = λ e. let (a, b) = both _ _ e in (eqb-true _ _ a, eqb-true _ _ b);
-      told = λ (a, b). rw (eq-eqb _ _ a, eq-eqb _ _ b);
+      holds = λ e. let (ab, c) = both _ _ e in let (a, b) = both _ _ ab in (eqb-true _ _ a, eqb-true _ _ b, omega (arith, leb-true (i .asked .share) 1000 c));
+      told = λ (a, b, c). rw (eq-eqb _ _ a, eq-eqb _ _ b, le-leb (i .asked .share) 1000 (omega (arith, c)));
     }
 
-lows-hold : (l : List ℕ) → lowLatencies l ≡ true → (k : ℕ) → k < length l → getD l k 0 ≤ 1000000
-unfolding lowLatencies
-lows-hold [] e k l = absurd (omega arith)
-lows-hold (x ∷ xs) e zero l = leb-true x 1000000 (both (leb x 1000000) (lowLatencies xs) e .0)
-lows-hold (x ∷ xs) e (suc k) l = lows-hold xs (both (leb x 1000000) (lowLatencies xs) e .1) k (omega arith)
-
-lows-told : (l : List ℕ) → ((k : ℕ) → k < length l → getD l k 0 ≤ 1000000) → lowLatencies l ≡ true
-unfolding lowLatencies
-lows-told [] h = refl
-lows-told (x ∷ xs) h = rw (le-leb x 1000000 (h 0 (omega arith))) (lows-told xs (λ k l. h (suc k) (omega arith)))
-
 pub lows-tell : (i : Inputs) → Tells (lowLatencies (i .latencies)) (LowLatencies i)
-lows-tell i = record { holds = lows-hold (i .latencies); told = lows-told (i .latencies) }
+unfolding lowLatencies
+lows-tell i = record { holds = λ e k l. bounded-holds 1000000 (i .latencies) e k; told = bounded-told 1000000 (i .latencies) }
 
 pub short-tells : (i : Inputs) → Tells (leb (length (i .trace)) longest) (ShortTrace i)
 short-tells i = record { holds = leb-true _ _; told = le-leb _ _ }

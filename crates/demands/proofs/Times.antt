@@ -22,7 +22,7 @@ use Rattle.demands.proofs.Allowed.{least-earliest}
 
 -- the records of a call wait for records of it only
 pub closed : (i : Inputs) (choice : Choice) → Closed (waits i choice)
-closed i choice = waits-closed (i .latencies) (entries i choice)
+closed i choice = waits-closed (i .asked .share) (i .latencies) (entries i choice)
 
 -- a call names one choice
 pub one-choice : (i : Inputs) (a b : Choice) → Chosen i a → Chosen i b → a ≡ b
@@ -47,14 +47,14 @@ module _ (i : Inputs) (a : Accepted i) where
   pub time-is : (k : ℕ) → k < length (entries i (a .choice)) → time i k ≡ timeAt (a .times) k
   time-is k l = rw times-are (List·getD-append (a .times) _ (pos 0) k (omega (arith, size)))
 
-  earliest-is : Earliest (i .latencies) (entries i (a .choice)) (time i)
+  earliest-is : Earliest (i .asked .share) (i .latencies) (entries i (a .choice)) (time i)
   unfolding waitsOf
   earliest-is =
-      least-earliest (i .latencies) (entries i (a .choice))
+      least-earliest (i .asked .share) (i .latencies) (entries i (a .choice))
       (record {
         sound = sound-same (waits i (a .choice)) (closed i (a .choice)) (timeAt (a .times)) (time i) (λ k l. sym (time-is k l)) (answer .least .sound);
         least = λ y s k l. rw (time-is k l) (answer .least .least y s k l);
       })
 
-  pub earliest : (choice : Choice) → Chosen i choice → Earliest (i .latencies) (entries i choice) (time i)
+  pub earliest : (choice : Choice) → Chosen i choice → Earliest (i .asked .share) (i .latencies) (entries i choice) (time i)
   earliest choice c = rw (one-choice i (a .choice) choice (a .matched .compared .levelled .read .begun .chosen) c) at earliest-is

@@ -43,4 +43,5 @@ module _ (i : Inputs) (choice : Choice) (m : Matched i choice) (none-matched : m
       }
 
   pub originals-settle : settle (waits i choice) ≡ settled 0 (listed (length (entries i choice)) (original (entries i choice)))
-  originals-settle = still (i .latencies) (entries i choice) originals-allowed
+  originals-settle =
+      still (i .asked .share) (i .latencies) (entries i choice) (m .compared .levelled .read .begun .sizes .2) originals-allowed

@@ -58,8 +58,8 @@ pub data SameButStamps (choice : Choice) : Lines → List ℤ → Lines → Type
 
 -- ---- reading it again
 
--- j reads what i wrote, "under that table and choice", and "under the same four numbers" of the levels; of the comparison of statistics:
--- "demand 2's reading again has it off, since moved times needn't agree"
+-- j reads what i wrote, "under that table and choice", and "under the same four numbers" of the levels, with the same share; of the comparison
+-- of statistics: "demand 2's reading again has it off, since moved times needn't agree"
 pub record Again (i j : Inputs) : Type 0 where
   pub trace : j .trace ≡ writtenTrace i
   pub latencies : j .latencies ≡ i .latencies

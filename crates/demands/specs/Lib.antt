@@ -1,4 +1,5 @@
--- The demands, one file to each, in their order. The files before them have the words in which they are said.
+-- The demands, one file to each, in their order, and behind them what the ninth change request says of the share. The files before them have the
+-- words in which they are said.
 pub mod Parts
 pub mod Steps
 pub mod Before
@@ -12,3 +13,4 @@ pub mod Switched
 pub mod Demand1
 pub mod Demand2
 pub mod Demand3
+pub mod Shares

@@ -29,8 +29,9 @@ Unheard a =
     ((¬ (a .choice ≡ 1)) × (¬ (a .choice ≡ 2)))
     ⊎ (((¬ (a .levels ≡ 0)) × (¬ (a .levels ≡ 1))) ⊎ ((¬ (a .statistics ≡ 0)) × (¬ (a .statistics ≡ 1))))
 
-abbrev pub RightLengths : Inputs → Type 0
-RightLengths i = (length (i .latencies) ≡ 4096) × (length (i .times) ≡ most (given i))
+-- a table and times of the right length, and of the share: "A share above 1,000 is refusal 2"
+abbrev pub RightSizes : Inputs → Type 0
+RightSizes i = (length (i .latencies) ≡ 4096) × (length (i .times) ≡ most (given i)) × (i .asked .share ≤ 1000)
 
 abbrev pub LowLatencies : Inputs → Type 0
 LowLatencies i = (k : ℕ) → k < length (i .latencies) → getD (i .latencies) k 0 ≤ 1000000
@@ -40,7 +41,7 @@ ShortTrace i = length (i .trace) ≤ longest
 
 pub record Begun (i : Inputs) (choice : Choice) : Type 0 where
   pub chosen : Chosen i choice
-  pub lengths : RightLengths i
+  pub sizes : RightSizes i
   pub low : LowLatencies i
   pub short : ShortTrace i
 
@@ -87,7 +88,7 @@ pub record Matched (i : Inputs) (choice : Choice) : Type 0 where
 
 -- what the records wait for
 abbrev pub waits : Inputs → Choice → Waits
-waits i choice = waitsOf (i .latencies) (entries i choice)
+waits i choice = waitsOf (i .asked .share) (i .latencies) (entries i choice)
 
 -- the times, and room for the written trace where it is asked for
 pub record Accepted (i : Inputs) : Type 0 where

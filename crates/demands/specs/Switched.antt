@@ -8,7 +8,8 @@ use Rattle.demands.specs.Parts.{number}
 
 -- the same with the comparison off
 abbrev pub uncompared : Asked → Asked
-uncompared a = record { choice = a .choice; levels = a .levels; picl = a .picl; user = a .user; trace = a .trace; statistics = 0 }
+uncompared a =
+    record { choice = a .choice; levels = a .levels; picl = a .picl; user = a .user; trace = a .trace; statistics = 0; share = a .share }
 
 abbrev pub switchedOff : Inputs → Inputs
 switchedOff i =

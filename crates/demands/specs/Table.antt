@@ -15,7 +15,7 @@ use Rattle.paper.specs.declared.Choice.{Choice}
 use Rattle.paper.specs.declared.Fault.{Fault}
 use Rattle.paper.specs.declared.Fault.the-variants as Fault
 use Rattle.paper.specs.declared.Site.{Site}
-use Rattle.demands.specs.Steps.{Chosen, Unheard, RightLengths, LowLatencies, ShortTrace, Matched, waits}
+use Rattle.demands.specs.Steps.{Chosen, Unheard, RightSizes, LowLatencies, ShortTrace, Matched, waits}
 use Rattle.demands.specs.Before.{ComesTo, AtLine}
 use Rattle.demands.specs.Levels.{OtherLevels}
 use Rattle.demands.specs.Statistics.{OtherStatistics}
@@ -38,13 +38,13 @@ unfoldable pub When : Inputs → Fault → Site → Type 0
 -- "choice is neither 1 (strict) nor 2 (lenient)"; of the levels "0 for off .. or 1 for on; any other is refusal 1"; of the statistics "0 for
 -- off or 1 for on, otherwise refusal 1"
 When i Fault.BadChoice site = Unheard (i .asked) × (site ≡ nowhere)
--- "table or times of the wrong length"
-When i Fault.WrongLength site = (choice : Choice) × Chosen i choice × (¬ RightLengths i) × (site ≡ nowhere)
+-- "table or times of the wrong length", and "A share above 1,000 is refusal 2"
+When i Fault.WrongLength site = (choice : Choice) × Chosen i choice × (¬ RightSizes i) × (site ≡ nowhere)
 -- "a latency above 1,000,000"
-When i Fault.HighLatency site = (choice : Choice) × Chosen i choice × RightLengths i × (¬ LowLatencies i) × (site ≡ nowhere)
+When i Fault.HighLatency site = (choice : Choice) × Chosen i choice × RightSizes i × (¬ LowLatencies i) × (site ≡ nowhere)
 -- "trace above 65,536 bytes"
 When i Fault.LongTrace site =
-    (choice : Choice) × Chosen i choice × RightLengths i × LowLatencies i × (¬ ShortTrace i) × (site ≡ nowhere)
+    (choice : Choice) × Chosen i choice × RightSizes i × LowLatencies i × (¬ ShortTrace i) × (site ≡ nowhere)
 -- "no LF at its end (5)", "form of a line or of any field but the timestamp (bad data too)"
 When i Fault.Form site = NoEnd i site ⊎ InField i site (λ choice. BadForm)
 -- "form of the timestamp"

@@ -27,12 +27,12 @@ unfolding Ended
 ended-both w k xs true times spare e here there = (rw here e, there ∙ sym here)
 ended-both w k xs false times spare e here there = (rw there e, here ∙ sym there)
 
-module _ (originals : List ℤ) (before send latency : List ℕ) where
+module _ (originals : List ℤ) (before gap send latency : List ℕ) where
   abbrev w : Waits
-  w = waitsOf originals before send latency
+  w = waitsOf originals before gap send latency
 
   all : Closed w
-  all = closed originals before send latency
+  all = closed originals before gap send latency
 
   -- the first round, or no times
   pub start-low : Low originals → Going w 0 originals
@@ -44,13 +44,13 @@ module _ (originals : List ℤ) (before send latency : List ℕ) where
   start-high high times spare = sym (means-settle w all impossible (stop-high w all 0 high))
 
   -- the slice in front goes where the originals do
-  follows : {k : ℕ} {xs : List ℤ} → Going w k xs → (i : ℕ) → i < length xs → round w (suc k) i ≡ following before send latency xs i
+  follows : {k : ℕ} {xs : List ℤ} → Going w k xs → (i : ℕ) → i < length xs → round w (suc k) i ≡ following before gap send latency xs i
   unfolding waitsOf following next
   follows {k} {xs} g i i< = round-risen w (timeAt xs) all k (g .times) i (omega (arith, g .size)) ∙ rw (g .size)
 
   -- a step from round k: the three ways out, and the next round
   module _ {k : ℕ} {first : Bool} {times spare times′ spare′ : List ℤ} {turn : Turn}
-      (g : Going w k (front first times spare)) (s : Stepped (following before send latency) first times spare turn times′ spare′) where
+      (g : Going w k (front first times spare)) (s : Stepped (following before gap send latency) first times spare turn times′ spare′) where
     pub step-over : turn ≡ Over → Ended w Never times′ spare′
     unfolding Ended
     step-over e = going-over w all g _ (follows g) _ (rw e at (s .turned))

@@ -11,7 +11,7 @@ use borrow.Author.Tests.{lt-ltb, le-ltb}
 use Rattle.paper.specs.Clock.{limit}
 use Rattle.rounds.specs.Meaning.{on-before, on-send, Closed}
 use Rattle.rounds.proofs.Order.{test}
-use Rattle.engine.specs.Promise.{place, waitsOf}
+use Rattle.engine.specs.Promise.{place, waitsOf, widest}
 
 pub place-at : {j n : ℕ} → j < n → place n j ≡ some j
 place-at {j} {n} l = rw (lt-ltb j n l)
@@ -26,13 +26,13 @@ place-in n i j =
     (λ h e. let z : _≡_ {A = ℕ} 0 1 = cc in omega arith)
 
 -- the slices' waits stay among the records
-pub closed : (originals : List ℤ) (before send latency : List ℕ) → Closed (waitsOf originals before send latency)
+pub closed : (originals : List ℤ) (before gap send latency : List ℕ) → Closed (waitsOf originals before gap send latency)
 unfolding waitsOf
-closed originals before send latency i j v i< (on-before e) = place-in _ _ j e
-closed originals before send latency i j v i< (on-send e) = place-in _ _ j e
+closed originals before gap send latency i j v i< (on-before e) = place-in _ _ j e
+closed originals before gap send latency i j v i< (on-send e) = place-in _ _ j e
 
--- a time within the limit and any latency fit a signed 64-bit sum
-pub sum-fits : (z : ℤ) (v : ℕ) → mag z < 2 ^ 63 → z ≤ℤ limit → v < 2 ^ 32 → mag (z +ℤ pos v) < 2 ^ 63
+-- a time within the limit and any gap or latency fit a signed 64-bit sum
+pub sum-fits : (z : ℤ) (v : ℕ) → mag z < 2 ^ 63 → z ≤ℤ limit → v ≤ widest → mag (z +ℤ pos v) < 2 ^ 63
 sum-fits (pos n) v f h l = omega (arith, leb→le n 999999999999999 (h .le))
 sum-fits (negsuc n) v f h l =
     test (λ z. mag z < 2 ^ 63) (ltb v (suc n)) (negsuc (suc n - suc v)) (pos (v - suc n)) (λ b. omega arith) (λ b. omega arith)

@@ -6,10 +6,11 @@ use mathlib.Core.Bool.{Bool, true, false, cond, not}
 use lib.ListN.{length}
 use lib.IntN.{ℤ}
 use lib.Signed.{_≤ℤ_}
+use Rattle.paper.specs.Tests.{allUpTo}
 use Rattle.paper.specs.Clock.{limit, timeAt, next}
 use Rattle.engine.specs.declared.Turn.{Turn}
 use Rattle.engine.specs.declared.Turn.the-variants.{Over, Same, Moved}
-use Rattle.engine.specs.Promise.{waitsOf}
+use Rattle.engine.specs.Promise.{waitsOf, widest, gapsFor}
 
 -- whether P holds of every number below i
 abbrev pub Told : Bool → (ℕ → Type 0) → ℕ → Type 0
@@ -24,16 +25,18 @@ Within xs k = timeAt xs k ≤ℤ limit
 abbrev pub Low : List ℤ → Type 0
 Low xs = Told true (Within xs) (length xs)
 
--- as many of each as there are times
-pub record Sized (before send latency : List ℕ) (times spare : List ℤ) : Type 0 where
+-- as many of each as there are times, or no gaps at all, and no gap that no two times have
+pub record Sized (before gap send latency : List ℕ) (times spare : List ℤ) : Type 0 where
   pub befores : length before ≡ length times
+  pub gaps : gapsFor (length times) (length gap) ≡ length times
   pub sends : length send ≡ length times
   pub latencies : length latency ≡ length times
   pub spares : length spare ≡ length times
+  pub narrow : allUpTo widest gap ≡ true
 
 -- the times of the round after the times xs, which stand for the originals too
-unfoldable pub following : (before send latency : List ℕ) → List ℤ → ℕ → ℤ
-following before send latency xs i = next (waitsOf xs before send latency) (timeAt xs) i
+unfoldable pub following : (before gap send latency : List ℕ) → List ℤ → ℕ → ℤ
+following before gap send latency xs i = next (waitsOf xs before gap send latency) (timeAt xs) i
 
 -- what a round by this rule does that is made after the times xs and put into ys
 unfoldable pub Turned : (List ℤ → ℕ → ℤ) → List ℤ → Turn → List ℤ → Type 0

@@ -3,10 +3,11 @@ use Prim.Native.Nat.{ℕ}
 use mathlib.Core.Path.{_≡_}
 use mathlib.Core.Option.{Option, none, some}
 use mathlib.Core.List.{List, [], _∷_}
-use mathlib.Core.Bool.{Bool, true, false, cond}
+use mathlib.Core.Bool.{Bool, true, false, cond, _&&_}
 use lib.ListN.{length, getD}
 use lib.IntN.{ℤ}
 use lib.Dec.{ltb, eqb}
+use Rattle.paper.specs.Tests.{allUpTo}
 use Rattle.paper.specs.Clock as paper
 use Rattle.paper.specs.Clock.{Waits, timeAt, settled, impossible}
 use Rattle.engine.specs.declared.Run.{Run}
@@ -16,13 +17,14 @@ use Rattle.engine.specs.declared.Run.the-variants.{At, Never, Misfit}
 abbrev pub place : ℕ → ℕ → Option ℕ
 place n j = cond (ltb j n) (some j) none
 
--- for each record its original, the place of the record before it, the place of its send, and the latency from there
-unfoldable pub waitsOf : List ℤ → (before send latency : List ℕ) → Waits
-waitsOf originals before send latency = record {
+-- for each record its original, the place of the record before it with the gap to keep from there, the place of its send, and the latency
+-- from there
+unfoldable pub waitsOf : List ℤ → (before gap send latency : List ℕ) → Waits
+waitsOf originals before gap send latency = record {
   size = length originals;
   original = timeAt originals;
   before = λ i. place (length originals) (getD before i 0);
-  gap = λ i. 0;
+  gap = λ i. getD gap i 0;
   send = λ i. place (length originals) (getD send i 0);
   latency = λ i. getD latency i 0;
 }
@@ -31,6 +33,19 @@ waitsOf originals before send latency = record {
 unfoldable pub allAre : ℕ → List ℕ → Bool
 allAre n [] = true
 allAre n (m ∷ ms) = cond (eqb m n) (allAre n ms) false
+
+-- the widest gap between two times that the format holds
+abbrev pub widest : ℕ
+widest = 1999999999999998
+
+-- no gaps at all are as good as one of 0 to each of n records
+unfoldable pub gapsFor : (n lent : ℕ) → ℕ
+gapsFor n lent = cond (eqb lent 0) n lent
+
+-- as many of each as there are times, and no gap that no two times have
+unfoldable pub fitting : (before gap send latency : List ℕ) → (times spare : List ℤ) → Bool
+fitting before gap send latency times spare =
+    allAre (length times) (length before ∷ gapsFor (length times) (length gap) ∷ length send ∷ length latency ∷ length spare ∷ []) && allUpTo widest gap
 
 -- ---- how the rounds end
 

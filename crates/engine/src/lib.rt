@@ -1,17 +1,21 @@
 // The engine of the clock condition: round after round over two lent slices until one repeats. specs/ says how that ends, in terms
 // of the paper's `settle`. No table of originals is kept: rounds rise, so that the largest of a record's own time, its
-// predecessor's and its send's plus latency is the paper's next time (proofs/Rising.antt).
-ghost use Prim.Native.Nat.{_<_};
+// predecessor's plus the gap and its send's plus latency is the paper's next time (proofs/Rising.antt).
+ghost use Prim.Native.Nat.{_≤_, _<_};
 ghost use mathlib.Core.Path.{_≡_};
 ghost use mathlib.Core.List.{[], _∷_};
-ghost use lib.ListN.{length};
+ghost use lib.ListN.{length, getD};
+ghost use Rattle.paper.specs.Tests.{allUpTo};
 ghost use Rattle.paper.specs.Clock as paper;
 ghost use Rattle.paper.specs.Clock.{timeAt, waited};
-ghost use Rattle.engine.specs.Promise.{place, waitsOf, allAre, Ended, RunInto};
+ghost use Rattle.engine.specs.Promise.{place, waitsOf, allAre, widest, gapsFor, fitting, Ended, RunInto};
 ghost use Rattle.engine.specs.Inner.{Told, Within, Low, Sized, following, Turned, front, Stepped};
 
 // The largest time that the format holds.
 const LIMIT: i64 = 999_999_999_999_999;
+
+// The widest gap between two times that the format holds.
+const WIDEST: u64 = 1_999_999_999_999_998;
 
 // What a round did.
 enum Turn {
@@ -26,7 +30,7 @@ pub enum Run {
     At(usize),
     // no times exist
     Never,
-    // the slices are not of one length
+    // the slices are not of one length, or a gap is wider than any between two times
     Misfit,
 }
 
@@ -37,8 +41,9 @@ fn later(a: i64, b: i64) -> i64
 }
 
 // `a`, or the time of the record at `j` plus the weight, where there is one and that is later.
-fn after(from: &[i64], j: u32, weight: u32, a: i64) -> i64
+fn after(from: &[i64], j: u32, weight: u64, a: i64) -> i64
     requires { ⌜ Low (now from) ⌝ }
+    requires { ⌜ weight ≤ widest ⌝ }
     ensures { λ r. ⌜ r ≡ waited (timeAt (now (from .entry))) (place (length (now (from .entry))) j) weight a ⌝ }
 {
     let at = j as usize;
@@ -50,27 +55,60 @@ fn after(from: &[i64], j: u32, weight: u32, a: i64) -> i64
     a
 }
 
-// The next time of record `i`, from its own time on.
-fn next_at(before: &[u32], send: &[u32], latency: &[u32], from: &[i64], i: usize) -> i64
-    requires { ⌜ Low (now from) ⌝ }
-    requires { ⌜ Sized (now before) (now send) (now latency) (now from) (now from) ⌝ }
-    requires { ⌜ i < length (now from) ⌝ }
-    ensures { λ r. ⌜ r ≡ following (now (before .entry)) (now (send .entry)) (now (latency .entry)) (now (from .entry)) i ⌝ }
+// A latency as a weight: none is as wide as a gap may be.
+fn weight_of(latency: u32) -> u64
+    ensures { λ r. ⌜ (r ≡ latency) × (r ≤ widest) ⌝ }
 {
-    let a = after(from, before[i], 0, from[i]);
-    after(from, send[i], latency[i], a)
+    latency as u64
+}
+
+// The gap of record `i`: none where no gaps are lent at all. That is asked in every turn and always the same, so that what is compiled has
+// a loop of its own without gaps.
+fn gap_at(gap: &[u64], i: usize) -> u64
+    requires { ⌜ ((length (now gap) ≡ 0 → ⊥) → i < length (now gap)) ⌝ }
+    ensures { λ r. ⌜ r ≡ getD (now (gap .entry)) i 0 ⌝ }
+{
+    if gap.len() == 0 {
+        return 0;
+    }
+    gap[i]
+}
+
+// The next time of record `i`, from its own time on.
+fn next_at(
+    before: &[u32],
+    gap: &[u64],
+    send: &[u32],
+    latency: &[u32],
+    from: &[i64],
+    i: usize,
+) -> i64
+    requires { ⌜ Low (now from) ⌝ }
+    requires { ⌜ Sized (now before) (now gap) (now send) (now latency) (now from) (now from) ⌝ }
+    requires { ⌜ i < length (now from) ⌝ }
+    ensures { λ r. ⌜ r ≡ following (now (before .entry)) (now (gap .entry)) (now (send .entry)) (now (latency .entry)) (now (from .entry)) i ⌝ }
+{
+    let a = after(from, before[i], gap_at(gap, i), from[i]);
+    after(from, send[i], weight_of(latency[i]), a)
 }
 
 // Into `to` the round after `from`. No time of `from` is above the limit, so that only one that moved is held to it.
-fn round(before: &[u32], send: &[u32], latency: &[u32], from: &[i64], to: &mut [i64]) -> Turn
+fn round(
+    before: &[u32],
+    gap: &[u64],
+    send: &[u32],
+    latency: &[u32],
+    from: &[i64],
+    to: &mut [i64],
+) -> Turn
     requires { ⌜ Low (now from) ⌝ }
-    requires { ⌜ Sized (now before) (now send) (now latency) (now from) (now to) ⌝ }
-    ensures { λ r. ⌜ Turned (following (now (before .entry)) (now (send .entry)) (now (latency .entry))) (now (from .entry)) r (now (to .exit)) ⌝ }
+    requires { ⌜ Sized (now before) (now gap) (now send) (now latency) (now from) (now to) ⌝ }
+    ensures { λ r. ⌜ Turned (following (now (before .entry)) (now (gap .entry)) (now (send .entry)) (now (latency .entry))) (now (from .entry)) r (now (to .exit)) ⌝ }
 {
     let mut moved: usize = 0;
     let mut i = 0;
     while i < from.len() {
-        let time = next_at(before, send, latency, from, i);
+        let time = next_at(before, gap, send, latency, from, i);
         to[i] = time;
         if time != from[i] {
             if time > LIMIT {
@@ -105,31 +143,33 @@ fn all_low(times: &[i64]) -> bool
 fn step(
     first: bool,
     before: &[u32],
+    gap: &[u64],
     send: &[u32],
     latency: &[u32],
     times: &mut [i64],
     spare: &mut [i64],
 ) -> Turn
     requires { ⌜ Low (front first (now times) (now spare)) ⌝ }
-    requires { ⌜ Sized (now before) (now send) (now latency) (now times) (now spare) ⌝ }
-    ensures { λ r. ⌜ Stepped (following (now (before .entry)) (now (send .entry)) (now (latency .entry))) first (now (times .entry)) (now (spare .entry)) r (now (times .exit)) (now (spare .exit)) ⌝ }
+    requires { ⌜ Sized (now before) (now gap) (now send) (now latency) (now times) (now spare) ⌝ }
+    ensures { λ r. ⌜ Stepped (following (now (before .entry)) (now (gap .entry)) (now (send .entry)) (now (latency .entry))) first (now (times .entry)) (now (spare .entry)) r (now (times .exit)) (now (spare .exit)) ⌝ }
 {
     if first {
-        return round(before, send, latency, times, spare);
+        return round(before, gap, send, latency, times, spare);
     }
-    round(before, send, latency, spare, times)
+    round(before, gap, send, latency, spare, times)
 }
 
 // The first round that the next one repeats.
 fn rounds(
     before: &[u32],
+    gap: &[u64],
     send: &[u32],
     latency: &[u32],
     times: &mut [i64],
     spare: &mut [i64],
 ) -> Run
-    requires { ⌜ Sized (now before) (now send) (now latency) (now times) (now spare) ⌝ }
-    ensures { λ r. ⌜ Ended (waitsOf (now (times .entry)) (now (before .entry)) (now (send .entry)) (now (latency .entry))) r (now (times .exit)) (now (spare .exit)) ⌝ }
+    requires { ⌜ Sized (now before) (now gap) (now send) (now latency) (now times) (now spare) ⌝ }
+    ensures { λ r. ⌜ Ended (waitsOf (now (times .entry)) (now (before .entry)) (now (gap .entry)) (now (send .entry)) (now (latency .entry))) r (now (times .exit)) (now (spare .exit)) ⌝ }
 {
     if !all_low(times) {
         return Run::Never;
@@ -137,7 +177,7 @@ fn rounds(
     let mut first = true;
     let mut k = 0;
     loop {
-        let turn = step(first, before, send, latency, times, spare);
+        let turn = step(first, before, gap, send, latency, times, spare);
         match turn {
             Turn::Over => return Run::Never,
             Turn::Same => return Run::At(k),
@@ -150,9 +190,16 @@ fn rounds(
     }
 }
 
-// Whether all four lengths are n.
-pub fn all_are(n: usize, first: usize, second: usize, third: usize, fourth: usize) -> bool
-    ensures { λ r. ⌜ r ≡ allAre n (first ∷ second ∷ third ∷ fourth ∷ []) ⌝ }
+// Whether all five lengths are n.
+pub fn all_are(
+    n: usize,
+    first: usize,
+    second: usize,
+    third: usize,
+    fourth: usize,
+    fifth: usize,
+) -> bool
+    ensures { λ r. ⌜ r ≡ allAre n (first ∷ second ∷ third ∷ fourth ∷ fifth ∷ []) ⌝ }
 {
     if first != n {
         return false;
@@ -166,28 +213,61 @@ pub fn all_are(n: usize, first: usize, second: usize, third: usize, fourth: usiz
     if fourth != n {
         return false;
     }
+    if fifth != n {
+        return false;
+    }
+    true
+}
+
+// How many gaps are as good as lent where n records are: none at all stand for one of 0 to each.
+fn gaps_for(n: usize, lent: usize) -> usize
+    ensures { λ r. ⌜ r ≡ gapsFor n lent ⌝ }
+{
+    if lent == 0 {
+        return n;
+    }
+    lent
+}
+
+// Whether no gap is wider than any between two times. The caller may lend any slice, and the sums of the rounds have to fit.
+fn none_wider(gap: &[u64]) -> bool
+    ensures { λ r. ⌜ r ≡ allUpTo widest (now (gap .entry)) ⌝ }
+{
+    let mut i: usize = 0;
+    while i < gap.len() {
+        if WIDEST < gap[i] {
+            return false;
+        }
+        i += 1;
+    }
     true
 }
 
 // The rounds from the originals in `times` on, in `times` and `spare` by turns. Record i waits for the record at before[i], the one
-// before it on its processor, and for its send at send[i] with latency[i]; a place past the end is none.
+// before it on its processor, with gap[i], and for its send at send[i] with latency[i]; a place past the end is none. No gap is kept
+// where none is lent.
 pub fn run_rounds(
     before: &[u32],
+    gap: &[u64],
     send: &[u32],
     latency: &[u32],
     times: &mut [i64],
     spare: &mut [i64],
 ) -> Run
-    ensures { λ r. ⌜ RunInto (allAre (length (now (times .entry))) (length (now (before .entry)) ∷ length (now (send .entry)) ∷ length (now (latency .entry)) ∷ length (now (spare .entry)) ∷ [])) (waitsOf (now (times .entry)) (now (before .entry)) (now (send .entry)) (now (latency .entry))) (now (times .entry)) (now (spare .entry)) r (now (times .exit)) (now (spare .exit)) ⌝ }
+    ensures { λ r. ⌜ RunInto (fitting (now (before .entry)) (now (gap .entry)) (now (send .entry)) (now (latency .entry)) (now (times .entry)) (now (spare .entry))) (waitsOf (now (times .entry)) (now (before .entry)) (now (gap .entry)) (now (send .entry)) (now (latency .entry))) (now (times .entry)) (now (spare .entry)) r (now (times .exit)) (now (spare .exit)) ⌝ }
 {
-    if all_are(
+    if !all_are(
         times.len(),
         before.len(),
+        gaps_for(times.len(), gap.len()),
         send.len(),
         latency.len(),
         spare.len(),
     ) {
-        return rounds(before, send, latency, times, spare);
+        return Run::Misfit;
     }
-    Run::Misfit
+    if !none_wider(gap) {
+        return Run::Misfit;
+    }
+    rounds(before, gap, send, latency, times, spare)
 }

@@ -12,7 +12,7 @@ use Rattle.flags.specs.Spans.{requestIn, planIn, Planned}
 use Rattle.flags.specs.Parts.{filled, valueIn, valuesIn, Held, wishesOf}
 use Rattle.named.specs.declared.Span.{Span}
 use Rattle.named.specs.declared.Name.{Name}
-use Rattle.named.specs.declared.Name.the-variants.{Choice, Trace, Table, Levels, Statistics}
+use Rattle.named.specs.declared.Name.the-variants.{Choice, Trace, Table, Levels, Statistics, Share}
 use Rattle.flags.specs.declared.Plan.the-variants.{Missing, Judge}
 use Rattle.flags.specs.declared.Wishes.{Wishes}
 use Rattle.flags.specs.declared.given.Given.{Given}
@@ -21,10 +21,10 @@ use Rattle.named.specs.declared.levels.Wanted.the-variants.{Expected}
 
 -- ---- what is asked
 
-pub asked-levels : (choice statistics : ℕ) {levels : Wanted} {a a′ b b′ c c′ : ℤ} → levels ≡ Expected a b c → a′ ≡ a → b′ ≡ b → c′ ≡ c
-    → _≡_ {A = Asked} (record { choice = choice; levels = 1; picl = a′; user = b′; trace = c′; statistics = statistics }) (askedOf choice levels statistics)
+pub asked-levels : (choice statistics share : ℕ) {levels : Wanted} {a a′ b b′ c c′ : ℤ} → levels ≡ Expected a b c → a′ ≡ a → b′ ≡ b → c′ ≡ c
+    → _≡_ {A = Asked} (record { choice = choice; levels = 1; picl = a′; user = b′; trace = c′; statistics = statistics; share = share }) (askedOf choice levels statistics share)
 unfolding askedOf
-asked-levels choice statistics e p q r = rw (e, p, q, r)
+asked-levels choice statistics share e p q r = rw (e, p, q, r)
 
 -- ---- what is missing
 
@@ -72,14 +72,20 @@ module _ (line : List ℕ) (given : Given) where
           no-statistics h =
               is-missing line Statistics (rw (full (given .choice) choice, full (given .trace) trace, full (given .table) table, full (given .levels) levels, empty (given .statistics) h))
 
-          -- ---- or nothing is
+          module _ (statistics : given .statistics .from < given .statistics .to) where
+            pub no-share : given .share .to ≤ given .share .from → Planned line (concluded (valuesIn line given)) (Missing Share)
+            unfolding concluded needed valuesIn valueIn
+            no-share h =
+                is-missing line Share (rw (full (given .choice) choice, full (given .trace) trace, full (given .table) table, full (given .levels) levels, full (given .statistics) statistics, empty (given .share) h))
 
-          pub all-given : {wishes : Wishes} → given .statistics .from < given .statistics .to → Held line given → wishes ≡ wishesOf line given
-              → Planned line (concluded (valuesIn line given)) (Judge wishes)
-          unfolding concluded needed valuesIn valueIn planIn requestIn wishesOf
-          all-given {wishes} statistics held is =
-              record {
-                is = rw (is, full (given .choice) choice, full (given .trace) trace, full (given .table) table, full (given .levels) levels, full (given .statistics) statistics);
-                word-within = λ word q. absurd (let r : _≡_ {A = ℕ} 0 1 = cc in omega arith);
-                wishes-within = λ other q. let same : other ≡ wishes = cc in rw (same, is) (record { trace = held .trace; table = held .table; out = held .out });
-              }
+            -- ---- or nothing is
+
+            pub all-given : {wishes : Wishes} → given .share .from < given .share .to → Held line given → wishes ≡ wishesOf line given
+                → Planned line (concluded (valuesIn line given)) (Judge wishes)
+            unfolding concluded needed valuesIn valueIn planIn requestIn wishesOf
+            all-given {wishes} share held is =
+                record {
+                  is = rw (is, full (given .choice) choice, full (given .trace) trace, full (given .table) table, full (given .levels) levels, full (given .statistics) statistics, full (given .share) share);
+                  word-within = λ word q. absurd (let r : _≡_ {A = ℕ} 0 1 = cc in omega arith);
+                  wishes-within = λ other q. let same : other ≡ wishes = cc in rw (same, is) (record { trace = held .trace; table = held .table; out = held .out });
+                }

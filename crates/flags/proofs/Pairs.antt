@@ -17,7 +17,7 @@ use Rattle.flags.specs.Spans.{planIn, Planned}
 use Rattle.flags.specs.Parts.{noSpan, noSpans, spanOf, withSpan, filled, valueIn, valuesIn, Held, accepted, turnIn, Turned}
 use Rattle.named.specs.declared.Span.{Span}
 use Rattle.named.specs.declared.Name.{Name}
-use Rattle.named.specs.declared.Name.the-variants.{Choice, Trace, Table, Levels, Statistics, Out}
+use Rattle.named.specs.declared.Name.the-variants.{Choice, Trace, Table, Levels, Statistics, Share, Out}
 use Rattle.flags.specs.declared.Plan.{Plan}
 use Rattle.flags.specs.declared.Plan.the-variants as Plan
 use Rattle.named.specs.declared.names.Found.{Found}
@@ -54,6 +54,7 @@ module _ (line : List ℕ) where
   value-there Table given = refl
   value-there Levels given = refl
   value-there Statistics given = refl
+  value-there Share given = refl
   value-there Out given = refl
 
   given-there : (span : Span) → isGiven (valueIn line span) ≡ filled span
@@ -75,16 +76,18 @@ module _ (line : List ℕ) where
   with-there Table span given e = rw e
   with-there Levels span given e = rw e
   with-there Statistics span given e = rw e
+  with-there Share span given e = rw e
   with-there Out span given e = rw e
 
   held-with : (name : Name) (span : Span) (given : Given) → Held line given → Within line span → Held line (withSpan name span given)
   unfolding withSpan
-  held-with Choice span given h w = record { choice = w; trace = h .trace; table = h .table; levels = h .levels; statistics = h .statistics; out = h .out }
-  held-with Trace span given h w = record { choice = h .choice; trace = w; table = h .table; levels = h .levels; statistics = h .statistics; out = h .out }
-  held-with Table span given h w = record { choice = h .choice; trace = h .trace; table = w; levels = h .levels; statistics = h .statistics; out = h .out }
-  held-with Levels span given h w = record { choice = h .choice; trace = h .trace; table = h .table; levels = w; statistics = h .statistics; out = h .out }
-  held-with Statistics span given h w = record { choice = h .choice; trace = h .trace; table = h .table; levels = h .levels; statistics = w; out = h .out }
-  held-with Out span given h w = record { choice = h .choice; trace = h .trace; table = h .table; levels = h .levels; statistics = h .statistics; out = w }
+  held-with Choice span given h w = record { choice = w; trace = h .trace; table = h .table; levels = h .levels; statistics = h .statistics; share = h .share; out = h .out }
+  held-with Trace span given h w = record { choice = h .choice; trace = w; table = h .table; levels = h .levels; statistics = h .statistics; share = h .share; out = h .out }
+  held-with Table span given h w = record { choice = h .choice; trace = h .trace; table = w; levels = h .levels; statistics = h .statistics; share = h .share; out = h .out }
+  held-with Levels span given h w = record { choice = h .choice; trace = h .trace; table = h .table; levels = w; statistics = h .statistics; share = h .share; out = h .out }
+  held-with Statistics span given h w = record { choice = h .choice; trace = h .trace; table = h .table; levels = h .levels; statistics = w; share = h .share; out = h .out }
+  held-with Share span given h w = record { choice = h .choice; trace = h .trace; table = h .table; levels = h .levels; statistics = h .statistics; share = w; out = h .out }
+  held-with Out span given h w = record { choice = h .choice; trace = h .trace; table = h .table; levels = h .levels; statistics = h .statistics; share = h .share; out = w }
 
   -- no good value is empty
   good-filled : (name : Name) (span : Span) → goodFor name (cut line span) ≡ true → filled span ≡ true
@@ -172,7 +175,7 @@ pub going-start : (separator : ℕ) (line : List ℕ) {given : Given} → given 
 unfolding noSpans planOf
 going-start separator line e =
     rw e (record {
-      held = record { choice = nowhere line; trace = nowhere line; table = nowhere line; levels = nowhere line; statistics = nowhere line; out = nowhere line };
+      held = record { choice = nowhere line; trace = nowhere line; table = nowhere line; levels = nowhere line; statistics = nowhere line; share = nowhere line; out = nowhere line };
       inside = omega arith;
       left = rw (none-given line);
     })

@@ -1,6 +1,6 @@
 // What was given, at the line's end: the first name that is missing, or what is asked for.
 ghost use mathlib.Core.Path.{_≡_};
-ghost use Rattle.named.specs.Values.{choiceOf, levelsOf, switchOf};
+ghost use Rattle.named.specs.Values.{choiceOf, levelsOf, switchOf, shareOf};
 ghost use Rattle.flags.specs.Plan.{askedOf, concluded};
 ghost use Rattle.named.specs.Parts.{cut, Within};
 ghost use Rattle.flags.specs.Spans.{Planned};
@@ -15,8 +15,8 @@ use paper::Asked;
 
 // Levels that are not asked for are 0 with the three numbers 0. No pair with levels of a bad form is taken, and what would come of one
 // is refused.
-fn asked_of(choice: u32, levels: Wanted, statistics: u32) -> Asked
-    ensures { λ r. ⌜ r ≡ askedOf choice levels statistics ⌝ }
+fn asked_of(choice: u32, levels: Wanted, statistics: u32, share: u32) -> Asked
+    ensures { λ r. ⌜ r ≡ askedOf choice levels statistics share ⌝ }
 {
     match levels {
         Wanted::Off => Asked {
@@ -26,6 +26,7 @@ fn asked_of(choice: u32, levels: Wanted, statistics: u32) -> Asked
             user: 0,
             trace: 0,
             statistics: statistics,
+            share: share,
         },
         Wanted::Expected(picl, user, trace) => Asked {
             choice: choice,
@@ -34,6 +35,7 @@ fn asked_of(choice: u32, levels: Wanted, statistics: u32) -> Asked
             user: user,
             trace: trace,
             statistics: statistics,
+            share: share,
         },
         Wanted::Bad => Asked {
             choice: 0,
@@ -42,6 +44,7 @@ fn asked_of(choice: u32, levels: Wanted, statistics: u32) -> Asked
             user: 0,
             trace: 0,
             statistics: statistics,
+            share: share,
         },
     }
 }
@@ -73,7 +76,16 @@ fn statistics_in(line: &[u8], span: Span) -> u32
     named::switch_of(&line[from..to])
 }
 
-// What is asked for, where all five were given.
+fn share_in(line: &[u8], span: Span) -> u32
+    requires { ⌜ Within (now line) span ⌝ }
+    ensures { λ r. ⌜ r ≡ shareOf (cut (now (line .entry)) span) ⌝ }
+{
+    let from = span.from;
+    let to = span.to;
+    named::share_of(&line[from..to])
+}
+
+// What is asked for, where all six were given.
 fn wishes_of(line: &[u8], given: Given) -> Wishes
     requires { ⌜ Held (now line) given ⌝ }
     ensures { λ r. ⌜ r ≡ wishesOf (now (line .entry)) given ⌝ }
@@ -81,7 +93,8 @@ fn wishes_of(line: &[u8], given: Given) -> Wishes
     let choice = choice_in(line, given.choice);
     let levels = levels_in(line, given.levels);
     let statistics = statistics_in(line, given.statistics);
-    let asked = asked_of(choice, levels, statistics);
+    let share = share_in(line, given.share);
+    let asked = asked_of(choice, levels, statistics, share);
     let trace = given.trace;
     let table = given.table;
     let out = given.out;
@@ -113,6 +126,9 @@ pub(crate) fn conclude(line: &[u8], given: Given) -> Plan
     }
     if given.statistics.to <= given.statistics.from {
         return Plan::Missing(Name::Statistics);
+    }
+    if given.share.to <= given.share.from {
+        return Plan::Missing(Name::Share);
     }
     Plan::Judge(wishes_of(line, given))
 }

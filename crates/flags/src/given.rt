@@ -11,6 +11,7 @@ pub(crate) struct Given {
     pub table: Span,
     pub levels: Span,
     pub statistics: Span,
+    pub share: Span,
     pub out: Span,
 }
 
@@ -23,6 +24,7 @@ pub(crate) fn nothing() -> Given
         table: Span { from: 0, to: 0 },
         levels: Span { from: 0, to: 0 },
         statistics: Span { from: 0, to: 0 },
+        share: Span { from: 0, to: 0 },
         out: Span { from: 0, to: 0 },
     }
 }
@@ -36,6 +38,7 @@ pub(crate) fn is_given(given: Given, name: Name) -> bool
         Name::Table => given.table.from < given.table.to,
         Name::Levels => given.levels.from < given.levels.to,
         Name::Statistics => given.statistics.from < given.statistics.to,
+        Name::Share => given.share.from < given.share.to,
         Name::Out => given.out.from < given.out.to,
     }
 }
@@ -63,6 +66,10 @@ pub(crate) fn with_span(given: Given, name: Name, span: Span) -> Given
         }
         Name::Statistics => {
             next.statistics = span;
+            next
+        }
+        Name::Share => {
+            next.share = span;
             next
         }
         Name::Out => {

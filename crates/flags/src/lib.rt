@@ -1,7 +1,7 @@
 // What a line of named arguments asks for, or which of them is bad or missing:
 //
 //     canary --choice strict|lenient --trace FILE --table FILE --levels PICL,USER,TRACE|off \
-//         --statistics on|off [--out FILE]
+//         --statistics on|off --share N [--out FILE]
 //
 // Nothing has a default, and nothing is stepped over. The line's words stand apart by a separator: the program joins its arguments with
 // a zero byte, which no argument has in it, and a case of the gate is a line with spaces.

@@ -1,5 +1,6 @@
 -- The laws of the forms, over plain lists and numbers, for the crates above.
 pub mod Tests
+pub mod Bounded
 pub mod Machine
 pub mod Runs
 pub mod Signs

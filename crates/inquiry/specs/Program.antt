@@ -1,5 +1,5 @@
--- What the programs `messages CHOICE TRACE TABLE` and `why CHOICE TRACE TABLE LINE` say, in their order. The system tells two things, which
--- are given here: either file as it could be read.
+-- What the programs `messages CHOICE TRACE TABLE` and `why CHOICE TRACE TABLE LINE [SHARE]` say, in their order. The system tells two
+-- things, which are given here: either file as it could be read.
 use Prim.Native.Nat.{ℕ}
 use mathlib.Core.Bool.{cond}
 use mathlib.Core.List.{List}
@@ -17,7 +17,6 @@ use Rattle.report.specs.Said.{saidShown}
 use Rattle.report.specs.declared.Said.the-variants as Said
 use Rattle.showing.specs.Shown.{onTrace}
 use Rattle.showing.specs.declared.Shows.{Shows}
-use Rattle.arguments.specs.Arguments.{choiceAlone}
 use Rattle.inquiry.specs.Arguments.{startOf}
 use Rattle.inquiry.specs.declared.begun.Start.{Start}
 use Rattle.inquiry.specs.declared.begun.Start.the-variants.{Ended, Judge}
@@ -31,19 +30,19 @@ onTable shows asked line trace table =
     cond (eqb (length table) 16384) judged (saidShown (Said.Answered (refusal Fault.WrongLength nowhere)))
 
 -- either file that can't be read, before all else that is asked of them
-unfoldable pub onFiles : Shows → (choice : ℕ) (line : List ℕ) (trace table : Option (List ℕ)) → List ℕ
-onFiles shows choice line none table = saidShown Said.CannotRead
-onFiles shows choice line (some trace) none = saidShown Said.CannotRead
-onFiles shows choice line (some trace) (some table) = onTable shows (choiceAlone choice) line trace table
+unfoldable pub onFiles : Shows → Asked → (line : List ℕ) (trace table : Option (List ℕ)) → List ℕ
+onFiles shows asked line none table = saidShown Said.CannotRead
+onFiles shows asked line (some trace) none = saidShown Said.CannotRead
+onFiles shows asked line (some trace) (some table) = onTable shows asked line trace table
 
 -- ---- the arguments
 
 unfoldable pub onStart : Shows → (line : List ℕ) → Start → (trace table : Option (List ℕ)) → List ℕ
 onStart shows line (Ended said) trace table = saidShown said
-onStart shows line (Judge choice) trace table = onFiles shows choice line trace table
+onStart shows line (Judge asked) trace table = onFiles shows asked line trace table
 
-unfoldable pub saidOf : Shows → (count : ℕ) (choice line : List ℕ) (trace table : Option (List ℕ)) → List ℕ
-saidOf shows count choice line trace table = onStart shows line (startOf shows count choice) trace table
+unfoldable pub saidOf : Shows → (count : ℕ) (choice line share : List ℕ) (trace table : Option (List ℕ)) → List ℕ
+saidOf shows count choice line share trace table = onStart shows line (startOf shows count choice share) trace table
 
 -- ---- the text at the start of a room
 

@@ -1,6 +1,6 @@
-// The programs `messages CHOICE TRACE TABLE` and `why CHOICE TRACE TABLE LINE`, which show the messages of a trace and why a time moved.
-// What they say is a function of the arguments and of what the files hold (specs/Program.antt); the functions here ask the system for
-// these, put the text into one room and print it in one write.
+// The programs `messages CHOICE TRACE TABLE` and `why CHOICE TRACE TABLE LINE [SHARE]`, which show the messages of a trace and why a time
+// moved. What they say is a function of the arguments and of what the files hold (specs/Program.antt); the functions here ask the system
+// for these, put the text into one room and print it in one write.
 mod begun;
 mod loaded;
 
@@ -12,7 +12,7 @@ use libc::STDOUT_FILENO;
 use showing::Shows;
 
 // The whole programs. An argument that is missing or longer than any name is handed on as an empty one, which is no choice, no file's
-// name and no line.
+// name, no line and no share.
 pub fn show_messages() {
     let mut choice = [0u8; 1];
     let mut trace = io::buffer();
@@ -27,6 +27,7 @@ pub fn show_messages() {
         &trace[..t],
         &table[..l],
         b"",
+        b"",
     );
 }
 
@@ -35,10 +36,12 @@ pub fn show_reasons() {
     let mut trace = io::buffer();
     let mut table = io::buffer();
     let mut line = io::buffer();
+    let mut share = io::buffer();
     let c = os::arg(1, &mut choice);
     let t = os::arg(2, &mut trace);
     let l = os::arg(3, &mut table);
     let n = os::arg(4, &mut line);
+    let s = os::arg(5, &mut share);
     perform(
         Shows::Reasons,
         os::arg_count(),
@@ -46,6 +49,7 @@ pub fn show_reasons() {
         &trace[..t],
         &table[..l],
         &line[..n],
+        &share[..s],
     );
 }
 
@@ -57,9 +61,17 @@ fn text_room() -> [u8; 524544]
 }
 
 // What a program does with its arguments. Their count has the program's own name in it.
-pub fn perform(shows: Shows, count: usize, choice: &[u8], trace: &[u8], table: &[u8], line: &[u8]) {
+pub fn perform(
+    shows: Shows,
+    count: usize,
+    choice: &[u8],
+    trace: &[u8],
+    table: &[u8],
+    line: &[u8],
+    share: &[u8],
+) {
     let mut room = text_room();
-    let n = performed(shows, count, choice, trace, table, line, &mut room);
+    let n = performed(shows, count, choice, trace, table, line, share, &mut room);
     io::write_all(STDOUT_FILENO, &room[..n]);
 }
 
@@ -71,12 +83,13 @@ fn performed(
     trace: &[u8],
     table: &[u8],
     line: &[u8],
+    share: &[u8],
     room: &mut [u8; 524544],
 ) -> usize
-    ensures { λ r. ⌜ TextInto (saidOf shows count (now (choice .entry)) (now (line .entry))) (now (room .entry)) r (now (room .exit)) ⌝ }
+    ensures { λ r. ⌜ TextInto (saidOf shows count (now (choice .entry)) (now (line .entry)) (now (share .entry))) (now (room .entry)) r (now (room .exit)) ⌝ }
 {
-    match begun::begun(shows, count, choice) {
+    match begun::begun(shows, count, choice, share) {
         Start::Ended(said) => showing::say(said, room),
-        Start::Judge(choice) => loaded::of_names(shows, choice, trace, table, line, room),
+        Start::Judge(asked) => loaded::of_names(shows, asked, trace, table, line, room),
     }
 }

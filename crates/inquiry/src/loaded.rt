@@ -5,6 +5,7 @@ ghost use Rattle.report.specs.Put.{Put};
 ghost use Rattle.files.specs.File.{fileOf};
 ghost use Rattle.inquiry.specs.Program.{TextInto, onFiles};
 use decided::Readiness;
+use paper::Asked;
 use showing::Shows;
 
 // Of a file that is too long one byte too many is read, which tells.
@@ -29,7 +30,7 @@ fn no_latencies() -> [u32; 4096]
 // What is decoded of a table that could not be read is not looked at.
 fn of_bytes(
     shows: Shows,
-    choice: u32,
+    asked: Asked,
     read: bool,
     trace: &[u8],
     got: bool,
@@ -37,29 +38,26 @@ fn of_bytes(
     line: &[u8],
     room: &mut [u8; 524544],
 ) -> usize
-    ensures { λ r. ⌜ Put (now (room .entry)) 0 (onFiles shows choice (now (line .entry)) (fileOf read (now (trace .entry))) (fileOf got (now (table .entry)))) r (now (room .exit)) ⌝ }
+    ensures { λ r. ⌜ Put (now (room .entry)) 0 (onFiles shows asked (now (line .entry)) (fileOf read (now (trace .entry))) (fileOf got (now (table .entry)))) r (now (room .exit)) ⌝ }
 {
     let mut latencies = no_latencies();
     let fits = table::decode(table, &mut latencies);
     match decided::ready(read, got, fits) {
         Readiness::Ended(said) => showing::say(said, room),
-        Readiness::Both => {
-            let asked = arguments::choice_alone(choice);
-            showing::show(shows, asked, trace, &latencies, line, room)
-        }
+        Readiness::Both => showing::show(shows, asked, trace, &latencies, line, room),
     }
 }
 
 // The files by their names.
 pub(crate) fn of_names(
     shows: Shows,
-    choice: u32,
+    asked: Asked,
     trace: &[u8],
     table: &[u8],
     line: &[u8],
     room: &mut [u8; 524544],
 ) -> usize
-    ensures { λ r. ⌜ TextInto (onFiles shows choice (now (line .entry))) (now (room .entry)) r (now (room .exit)) ⌝ }
+    ensures { λ r. ⌜ TextInto (onFiles shows asked (now (line .entry))) (now (room .entry)) r (now (room .exit)) ⌝ }
 {
     let mut bytes = trace_buffer();
     let mut held = table_buffer();
@@ -70,7 +68,7 @@ pub(crate) fn of_names(
     let m = second.len;
     of_bytes(
         shows,
-        choice,
+        asked,
         read,
         &bytes[..n],
         second.ok,

@@ -10,10 +10,10 @@ use mathlib.Core.Option.{some}
 use lib.ListN.{length, take, drop}
 use lib.Seq.{ext-getD}
 use lib.IntN.{ℤ, pos}
-use lib.Dec.{T, ltb, leb, eqb}
-use borrow.Author.Tests.{lt-ltb, le-ltb, le-leb, eqb-true}
+use lib.Dec.{T, ltb, leb}
+use borrow.Author.Tests.{lt-ltb, le-ltb, le-leb}
 use Rattle.paper.specs.Columns.{nowhere}
-use Rattle.paper.specs.Answer.{Inputs, Found, stopped, found, given, most, rightLengths, reach, conclude, judge, accepted, originals, onWritten, written, refused}
+use Rattle.paper.specs.Answer.{Inputs, Found, stopped, found, given, most, reach, conclude, judge, accepted, originals, onWritten, written, refused}
 use Rattle.paper.specs.Clock.{Waits, listed, same, timeAt}
 use Rattle.paper.specs.Numbers.{numberOf}
 use Rattle.paper.specs.Matching.{waitsOf, entryAt}
@@ -29,7 +29,6 @@ use Rattle.rounds.specs.Meaning as rounds
 use Rattle.rounds.proofs.Lists.{same-equal, equal-same}
 use Rattle.rounds.proofs.Meaning.{settled-answer}
 use Rattle.rounds.proofs.Still.{still-iff}
-use Rattle.forms.proofs.Tests.{both}
 use Rattle.store.proofs.Listed.{length-listed, listed-at}
 use Rattle.waits.proofs.Closed.{closed-waits}
 use Rattle.demands.proofs.InOrder.{few-entries, originals-range}
@@ -62,7 +61,7 @@ module _ (i : Inputs) (f : Found) (is : reach (given i) ≡ found f) where
   es = f .reading .entries
 
   abbrev w : Waits
-  w = waitsOf (i .latencies) es
+  w = waitsOf (i .asked .share) (i .latencies) es
 
   means : Means (given i) f
   means = found-means (given i) f is
@@ -74,7 +73,7 @@ module _ (i : Inputs) (f : Found) (is : reach (given i) ≡ found f) where
   entries-are = ap (λ (r : Reading). r .entries) (means .reading)
 
   answer : rounds.Answer w (f .rounds) (f .times)
-  answer = settled-answer w (closed-waits es (i .latencies)) (means .settles)
+  answer = settled-answer w (closed-waits es (i .asked .share) (i .latencies)) (means .settles)
 
   size : length (f .times) ≡ length es
   unfolding waitsOf
@@ -85,10 +84,7 @@ module _ (i : Inputs) (f : Found) (is : reach (given i) ≡ found f) where
 
   -- as many times are lent as a call may list records
   places : length (i .times) ≡ most (given i)
-  unfolding rightLengths
-  places =
-      eqb-true (length (i .times)) (most (given i))
-      (both (eqb (length (i .latencies)) 4096) (eqb (length (i .times)) (most (given i))) (means .lengths) .1)
+  places = means .places
 
   -- ---- some time moved exactly if there was a round
 
@@ -98,7 +94,7 @@ module _ (i : Inputs) (f : Found) (is : reach (given i) ≡ found f) where
 
   still : (f .rounds ≡ 0) ↔ ((k : ℕ) → k < length es → timeAt (f .times) k ≡ entryAt es k .body .time)
   unfolding waitsOf
-  still = still-iff w (closed-waits es (i .latencies)) (means .settles)
+  still = still-iff w (closed-waits es (i .asked .share) (i .latencies)) (means .settles)
 
   equal : f .rounds ≡ 0 → f .times ≡ originals w
   unfolding waitsOf

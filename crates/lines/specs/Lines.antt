@@ -8,7 +8,7 @@ use Rattle.report.specs.Put.{Put}
 use Rattle.report.specs.Report.{named, numbered}
 use Rattle.lines.specs.Parts.{timed, wholeShown, recordShown}
 use Rattle.lines.specs.declared.Cause.{Cause}
-use Rattle.lines.specs.declared.Cause.the-variants.{Original, Before, Sent}
+use Rattle.lines.specs.declared.Cause.the-variants.{Original, Before, Kept, Sent}
 use Rattle.lines.specs.declared.Stamped.{Stamped}
 
 -- ---- a message: "each with its send's place and its receive's place", by their lines and with their corrected times
@@ -28,9 +28,15 @@ messageShown send receive received sent tag =
 
 -- ---- a record of a chain: "to a record still at its original time, each step to the record before it on its processor or to its send"
 
+-- "that many thousandths of their original gap": what is kept, of which gap, and behind which line
+unfoldable pub keptShown : (kept gap line : ℕ) → List ℕ
+keptShown kept gap line =
+    named (bytesOf " keeps ") kept ++ (named (bytesOf " of ") gap ++ numbered (bytesOf " microseconds after line ") line)
+
 unfoldable pub causeShown : Cause → List ℕ
 causeShown Original = bytesOf " at its original\n"
 causeShown Before = bytesOf " waits for the record before it\n"
+causeShown (Kept kept gap line) = keptShown kept gap line
 causeShown (Sent latency) = numbered (bytesOf " waits for its send, latency ") latency
 
 unfoldable pub timesShown : Stamped → List ℕ

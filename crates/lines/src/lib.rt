@@ -19,11 +19,12 @@ pub struct Stamped {
     pub corrected: i64,
 }
 
-// Why a record of a chain has its time: it is its original one, it waits for the record before it on its processor, or for its send and
-// so long.
+// Why a record of a chain has its time: it is its original one, it waits for the record before it on its processor, keeps so many
+// microseconds of so many behind that one, which stands on such a line (change request 9), or waits for its send and so long.
 pub enum Cause {
     Original,
     Before,
+    Kept(u64, u64, u64),
     Sent(u64),
 }
 

@@ -39,7 +39,7 @@ module _ (q : Query) (places : ℕ) (numbers : List ℕ) where
   -- ---- the messages
 
   module _ (f : Found) (is : reach (judged q) ≡ found f) {count : ℕ}
-      (holds : Holds (messagesOf (waitsOf (q .latencies) (f .reading .entries))) count numbers) where
+      (holds : Holds (messagesOf (waitsOf (q .asked .share) (q .latencies) (f .reading .entries))) count numbers) where
     planned-found : {r : Filled} → r ≡ fillingIn count places → Planned q places r numbers
     unfolding fillingIn unfilling messages fill onReached onList untouched filledWith laid
     planned-found {r} e = go (ltb places count) refl
@@ -78,7 +78,7 @@ module _ (sends : List ℕ) (places room : ℕ) (numbers : List ℕ) where
       let first : take (counts .listed - 0) sends ≡ placesOf es = rw sub-zero (held .places) in
       let short : length (take (counts .listed - 0) sends) ≤ length sends = take-le (counts .listed - 0) sends in
       let holds = gathered (le-trans short enough) in
-      planned-found q places numbers f is (rw (first, same-messages es (q .latencies)) at holds) a
+      planned-found q places numbers f is (rw (first, same-messages es (q .asked .share) (q .latencies)) at holds) a
 
 -- the sends' places in front of their slice
 pub within : {reached : Reached} (sends : List ℕ) → WithSends reached sends → (counts : Counts) → reached ≡ Times counts → counts .listed ≤ length sends

@@ -33,6 +33,7 @@ module _ (es : List Entry) where
       rw (length-listed (length es) (λ k. Option·getD (sendOf es k) (length es)), listed-at (length es) (λ k. Option·getD (sendOf es k) (length es)) i 0 l)
       (sent (sendOf es i) (λ j e. send-within es i j e))
 
-  pub same-messages : (latencies : List ℕ) → messagesTo (sendIn (placesOf es)) (length (placesOf es)) ≡ messagesOf (waitsOf latencies es)
+  pub same-messages : (share : ℕ) (latencies : List ℕ)
+      → messagesTo (sendIn (placesOf es)) (length (placesOf es)) ≡ messagesOf (waitsOf share latencies es)
   unfolding messagesOf waitsOf
-  same-messages latencies = rw (length-places es) (messages-same (sendIn (placesOf es)) (sendOf es) (length es) same-send)
+  same-messages share latencies = rw (length-places es) (messages-same (sendIn (placesOf es)) (sendOf es) (length es) same-send)

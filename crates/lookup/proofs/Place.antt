@@ -6,19 +6,15 @@ use native.Mathlib.Numerals.{add-one}
 use native.Mathlib.Omega.{arith}
 use lib.ListN.{drop, drop-of-length-le}
 use lib.Seq.{drop-cons}
-use lib.IntN.{ℤ}
 use borrow.Author.Tests.{eq-eqb, ne-eqb}
 use Rattle.paper.specs.Matching.{entryAt, noEntry}
 use Rattle.paper.specs.declared.Entry.{Entry}
-use Rattle.paper.specs.declared.Field.{Field}
-use Rattle.paper.specs.declared.Field.the-variants.{Good, Bad}
-use Rattle.signed.specs.Naturals.{sizeOf}
 use Rattle.signed.specs.declared.Natural.{Natural}
 use Rattle.signed.specs.declared.Natural.the-variants.{Of, Outside}
 use Rattle.store.specs.Layout.{entriesIn, entryFrom}
 use Rattle.store.proofs.Laws.{length-entries, entry-in}
-use Rattle.numeral.specs.Numeral.{numeralOf}
-use Rattle.lookup.specs.Place.{lineBy, lineIn, placeFrom, placeBy, placeOn}
+use Rattle.numeral.specs.Numeral.{naturalIn}
+use Rattle.lookup.specs.Place.{placeFrom, placeBy, placeOn}
 
 -- ---- the search
 
@@ -64,16 +60,7 @@ module _ {store : List ℕ} {listed line i : ℕ} (g : Going store listed line i
 
 -- ---- the word
 
-module _ (word : List ℕ) {read : Field} (is : read ≡ numeralOf word) where
-  pub no-number : (read ≡ Bad) → Outside ≡ lineIn word
-  unfolding lineIn lineBy
-  no-number e = rw (sym is ∙ e)
-
-  pub a-number : {z y : ℤ} {n : Natural} → read ≡ Good z → y ≡ z → n ≡ sizeOf y → n ≡ lineIn word
-  unfolding lineIn lineBy
-  a-number e s t = rw (sym is ∙ e, ← s) t
-
-module _ (word : List ℕ) (store : List ℕ) (listed : ℕ) {named : Natural} (is : named ≡ lineIn word) where
+module _ (word : List ℕ) (store : List ℕ) (listed : ℕ) {named : Natural} (is : named ≡ naturalIn word) where
   pub on-line : {line place : ℕ} → named ≡ Of line → place ≡ placeFrom line (entriesIn store listed) → place ≡ placeOn word (entriesIn store listed)
   unfolding placeOn placeBy
   on-line e p = rw (sym is ∙ e) p

@@ -5,20 +5,9 @@ use mathlib.Core.List.{List, [], _∷_}
 use lib.ListN.{length}
 use lib.Dec.{eqb}
 use Rattle.paper.specs.declared.Entry.{Entry}
-use Rattle.paper.specs.declared.Field.{Field}
-use Rattle.paper.specs.declared.Field.the-variants.{Good, Bad}
-use Rattle.signed.specs.Naturals.{sizeOf}
 use Rattle.signed.specs.declared.Natural.{Natural}
 use Rattle.signed.specs.declared.Natural.the-variants.{Of, Outside}
-use Rattle.numeral.specs.Numeral.{numeralOf}
-
--- the line that a word names, if it is a number and not a negative one
-unfoldable pub lineBy : Field → Natural
-lineBy (Good z) = sizeOf z
-lineBy Bad = Outside
-
-unfoldable pub lineIn : List ℕ → Natural
-lineIn word = lineBy (numeralOf word)
+use Rattle.numeral.specs.Numeral.{naturalIn}
 
 -- the place of the first record on a line, and the number of records where there is none: nothing stands on line 0, on a line that was
 -- passed over and on one past the end
@@ -30,5 +19,6 @@ unfoldable pub placeBy : Natural → List Entry → ℕ
 placeBy (Of line) es = placeFrom line es
 placeBy Outside es = length es
 
+-- on the line that a word names, if it is a number and not a negative one
 unfoldable pub placeOn : List ℕ → List Entry → ℕ
-placeOn word es = placeBy (lineIn word) es
+placeOn word es = placeBy (naturalIn word) es

@@ -1,19 +1,8 @@
 // The place of the listed record that stands on a line of the file.
 ghost use mathlib.Core.Path.{_≡_};
 ghost use Rattle.store.specs.Layout.{entriesIn};
-ghost use Rattle.lookup.specs.Place.{lineIn, placeFrom, placeOn};
-use paper::Field;
+ghost use Rattle.lookup.specs.Place.{placeFrom, placeOn};
 use signed::Natural;
-
-// The line that a word names.
-fn line_in(word: &[u8]) -> Natural
-    ensures { λ r. ⌜ r ≡ lineIn (now (word .entry)) ⌝ }
-{
-    let Field::Good(z) = numeral::read_number(word) else {
-        return Natural::Outside;
-    };
-    signed::size(z)
-}
 
 fn place_from(store: &[u32], listed: usize, line: usize) -> usize
     ensures { λ r. ⌜ r ≡ placeFrom line (entriesIn (now (store .entry)) listed) ⌝ }
@@ -28,11 +17,11 @@ fn place_from(store: &[u32], listed: usize, line: usize) -> usize
     i
 }
 
-// Where no listed record stands there, the number of them, which is no place.
+// The place on the line that a word names. Where no listed record stands there, the number of them, which is no place.
 pub fn place_on(store: &[u32], listed: usize, word: &[u8]) -> usize
     ensures { λ r. ⌜ r ≡ placeOn (now (word .entry)) (entriesIn (now (store .entry)) listed) ⌝ }
 {
-    match line_in(word) {
+    match numeral::read_natural(word) {
         Natural::Of(line) => place_from(store, listed, line),
         Natural::Outside => listed,
     }

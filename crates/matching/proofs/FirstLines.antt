@@ -2,12 +2,12 @@
 use Prim.Native.Nat.{ℕ, zero, suc, _≤_, _<_}
 use native.Mathlib.Omega.{arith}
 use mathlib.Core.Path.{_≡_, refl, sym, ap, _∙_}
-use mathlib.Core.Option.{some}
+use mathlib.Core.Option.{Option, none, some}
 use mathlib.Core.List.{List, _++_}
 use lib.ListN.{length, length-append, List·getD-append}
 use lib.Seq.{take-append-le}
 use Rattle.paper.specs.Clock.{Waits}
-use Rattle.paper.specs.Matching.{Key, isSendOf, sendPlace, sendFor, entryAt, sendOf, matchedOf, lastOf, lastOn, latencyFor, waitsOf}
+use Rattle.paper.specs.Matching.{Key, isSendOf, sendPlace, sendFor, entryAt, sendOf, matchedOf, lastOf, lastOn, latencyFor, gapFrom, waitsOf}
 use Rattle.paper.specs.declared.Message.{Message}
 use Rattle.paper.specs.declared.Role.{Role}
 use Rattle.paper.specs.declared.Role.the-variants.{Neither, Send, Receive}
@@ -17,6 +17,7 @@ use Rattle.matching.proofs.Count.{count-same}
 use Rattle.matching.proofs.Places.{sendAt, place-answers}
 use Rattle.matching.proofs.Keys.{receiveKey}
 use Rattle.matching.proofs.Belong.{processorAt, roleAt}
+use Rattle.matching.proofs.Before.{last-on}
 use Rattle.matching.proofs.Calls.{every-receive}
 
 -- one set of waits begins with another
@@ -81,14 +82,28 @@ module _ (es more : List Entry) where
   before-stays i l =
       ap (λ (e : Entry). lastOn (es ++ more) (e .body .processor) i) (entry-stays i l) ∙ last-stays (processorAt es i) i (omega arith)
 
-  pub waits-begin : (latencies : List ℕ) → matchedOf es ≡ End → Begins (waitsOf latencies (es ++ more)) (waitsOf latencies es)
+  -- the two times that a gap lies between are of records before the place and at it
+  gap-from-stays : (share i : ℕ) → i < length es → (o : Option ℕ) → ((j : ℕ) → o ≡ some j → j < i)
+      → gapFrom share (es ++ more) i o ≡ gapFrom share es i o
+  unfolding gapFrom
+  gap-from-stays share i l none before = refl
+  gap-from-stays share i l (some j) before = rw (entry-stays i l, entry-stays j (omega (arith, before j refl)))
+
+  gap-stays : (share i : ℕ) → i < length es
+      → gapFrom share (es ++ more) i (lastOn (es ++ more) (processorAt (es ++ more) i) i) ≡ gapFrom share es i (lastOn es (processorAt es i) i)
+  gap-stays share i l =
+      ap (gapFrom share (es ++ more) i) (before-stays i l)
+      ∙ gap-from-stays share i l (lastOn es (processorAt es i) i) (λ j e. last-on es (processorAt es i) i j e .before)
+
+  pub waits-begin : (share : ℕ) (latencies : List ℕ) → matchedOf es ≡ End
+      → Begins (waitsOf share latencies (es ++ more)) (waitsOf share latencies es)
   unfolding waitsOf
-  waits-begin latencies h =
+  waits-begin share latencies h =
       record {
         size = simp length-append (omega arith);
         original = λ i l. ap (λ (e : Entry). e .body .time) (entry-stays i l);
         before = before-stays;
-        gap = λ i l. refl;
+        gap = gap-stays share;
         send = send-stays h;
         latency = λ i l. ap (λ (e : Entry). latencyFor latencies (e .body .processor) (e .body .role)) (entry-stays i l);
       }

@@ -22,7 +22,7 @@ use Rattle.forms.proofs.Tests.{never}
 use Rattle.reading.specs.Joined.{AllEnded, lineCount}
 use Rattle.reading.proofs.Along.{Reads, along}
 use Rattle.reading.proofs.Counted.{all-ended, line-count}
-use Rattle.demands.specs.Steps.{Chosen, RightLengths, LowLatencies, Begun, reading, entries, Read}
+use Rattle.demands.specs.Steps.{Chosen, RightSizes, LowLatencies, Begun, reading, entries, Read}
 use Rattle.demands.specs.Table.{When}
 use Rattle.demands.proofs.Numbers.{one-fault}
 use Rattle.demands.proofs.Stops.{BadLine}
@@ -33,9 +33,9 @@ use Rattle.merges.specs.Table.{OfATrace}
 
 -- ---- nothing is refused before the trace
 
-right-lengths : (n : ℕ) (s : List ℕ) → RightLengths (alone n s)
+right-sizes : (n : ℕ) (s : List ℕ) → RightSizes (alone n s)
 unfolding alone most
-right-lengths n s = (length-replicate {A = ℕ} 4096 0, length-replicate 2048 (pos 0))
+right-sizes n s = (length-replicate {A = ℕ} 4096 0, length-replicate 2048 (pos 0), omega arith)
 
 low-latencies : (n : ℕ) (s : List ℕ) → LowLatencies (alone n s)
 unfolding alone
@@ -81,7 +81,7 @@ module _ (n : ℕ) (s : List ℕ) where
   module _ (choice : Choice) (chosen : choiceOf n ≡ some choice) where
     begun : length s ≤ longest → Begun (alone n s) choice
     unfolding alone
-    begun short = record { chosen = alone-chosen n s choice chosen; lengths = right-lengths n s; low = low-latencies n s; short = short }
+    begun short = record { chosen = alone-chosen n s choice chosen; sizes = right-sizes n s; low = low-latencies n s; short = short }
 
     pub read-of : stopAlone choice s ≡ End → Read (alone n s) choice
     read-of e = go (decLe (length s) longest)
@@ -107,7 +107,7 @@ module _ (n : ℕ) (s : List ℕ) where
             let same : Fault.LongTrace ≡ fault = cc in
             let there : nowhere ≡ site = cc in
             rw (← same, ← there)
-            ((omega arith, omega arith), (choice, alone-chosen n s choice chosen, right-lengths n s, low-latencies n s, long, refl))
+            ((omega arith, omega arith), (choice, alone-chosen n s choice chosen, right-sizes n s, low-latencies n s, long, refl))
 
   pub stop-row : (fault : Fault) (site : Site) → OfATrace fault → When (alone n s) fault site
       → (choice : Choice) × (choiceOf n ≡ some choice) × (stopAlone choice s ≡ At fault site)

@@ -22,7 +22,7 @@ use Rattle.paper.specs.declared.Site.{Site}
 use Rattle.paper.specs.declared.Stop.the-variants.{At}
 use Rattle.forms.proofs.Tests.{never}
 use Rattle.demands.specs.Parts.{number, site}
-use Rattle.demands.specs.Steps.{Chosen, RightLengths, LowLatencies, Begun, reading, Accepted}
+use Rattle.demands.specs.Steps.{Chosen, RightSizes, LowLatencies, Begun, reading, Accepted}
 use Rattle.demands.specs.Table.{When}
 use Rattle.demands.proofs.Stops.{BadLine}
 use Rattle.demands.proofs.Said.{when-line}
@@ -98,7 +98,7 @@ module _ (i : Merging) (joins : Joins i) (j : Inputs) (judges : Judges i j) wher
   length-is : length (j .trace) ≡ length (i .first) + length (i .second)
   length-is = ap length (judges .trace) ∙ trace-long i joins
 
-  pub too-long : Chosen j choice → RightLengths j → LowLatencies j → (number j ≡ 4) ↔ (longest < length (i .first) + length (i .second))
+  pub too-long : Chosen j choice → RightSizes j → LowLatencies j → (number j ≡ 4) ↔ (longest < length (i .first) + length (i .second))
   unfolding numberOf When
   too-long chosen lengths low = (to, of)
     where

@@ -31,14 +31,14 @@ mergedTrace i = take (written i) (merge i .room)
 
 -- ---- either trace by itself
 
--- a judging call on one trace that nothing is refused of before it: a table of zeros, the lent times, no levels asked for and no
--- statistics compared
+-- a judging call on one trace that nothing is refused of before it: a table of zeros, the lent times, no levels asked for, no statistics
+-- compared and no gap kept
 unfoldable pub alone : ℕ → List ℕ → Inputs
 alone choice s =
     record {
       trace = s;
       latencies = replicate 4096 0;
-      asked = record { choice = choice; levels = 0; picl = pos 0; user = pos 0; trace = pos 0; statistics = 0 };
+      asked = record { choice = choice; levels = 0; picl = pos 0; user = pos 0; trace = pos 0; statistics = 0; share = 0 };
       times = replicate 2048 (pos 0);
       wanted = false;
       room = [];

@@ -15,7 +15,7 @@ use Rattle.paper.specs.declared.Tally.{Tally}
 use Rattle.reading.specs.Joined.{lineCount}
 use Rattle.reading.specs.Mixed.{Mixed}
 use Rattle.demands.specs.Parts as judged
-use Rattle.demands.specs.Steps.{Chosen, RightLengths, LowLatencies, Begun, reading, entries}
+use Rattle.demands.specs.Steps.{Chosen, RightSizes, LowLatencies, Begun, reading, entries}
 use Rattle.merges.specs.Parts.{written, mergedTrace, first, second}
 
 -- ---- how many lines of either are listed and passed over
@@ -80,7 +80,7 @@ pub record MergedTrace (i : Merging) (choice : Choice) : Type 0 where
   -- none of 5 to 11 is given,
   pub no-bad-line : (j : Inputs) → Judges i j → ¬ ((5 ≤ judged.number j) × (judged.number j ≤ 11))
   -- 4 exactly if the two together are above the limit, where 1 to 3 are not called for,
-  pub too-long : (j : Inputs) → Judges i j → Chosen j choice → RightLengths j → LowLatencies j
+  pub too-long : (j : Inputs) → Judges i j → Chosen j choice → RightSizes j → LowLatencies j
       → (judged.number j ≡ 4) ↔ (longest < length (i .first) + length (i .second))
   -- and 12 exactly if they list too many, where 1 to 4 are not called for
   pub too-many : (j : Inputs) → Judges i j → Begun j choice → (judged.number j ≡ 12) ↔ (most (given j) < listedOfBoth i choice)

@@ -9,20 +9,22 @@ use lib.ListN.{length, take, drop, getD, length-drop, drop-of-length-le}
 use lib.Seq.{take-all}
 use lib.IntN.{ℤ}
 use lib.Dec.{eqb}
-use borrow.Author.Tests.{eq-eqb, ne-eqb}
+use borrow.Author.Tests.{lt-ltb, le-ltb, eq-eqb, ne-eqb}
 use Rattle.bytes.specs.Bytes.{indexOf}
 use Rattle.paper.specs.Text.{bytesOf, isSame}
 use Rattle.paper.specs.Forms.{hasMinus, unled, signed, atMost}
 use Rattle.forms.specs.Sizes.{wholePart}
-use Rattle.numeral.specs.Numeral.{numeralOf}
+use Rattle.signed.specs.declared.Natural.{Natural}
+use Rattle.signed.specs.declared.Natural.the-variants.{Of, Outside}
+use Rattle.numeral.specs.Numeral.{numeralOf, naturalBy, naturalIn}
 use Rattle.paper.specs.declared.Field.{Field}
 use Rattle.paper.specs.declared.Field.the-variants as Field
 use Rattle.named.specs.Words.{upTo, behind}
-use Rattle.named.specs.Values.{written, nameOf, forgotten, choiceOf, expected, threeOf, levelsOf, isGood, switchOf, goodFor}
+use Rattle.named.specs.Values.{written, nameOf, forgotten, choiceOf, expected, threeOf, levelsOf, isGood, switchOf, shareBy, shareOf, goodFor}
 use Rattle.named.specs.Parts.{cut, WordAt}
 use Rattle.named.specs.declared.Span.{Span}
 use Rattle.named.specs.declared.Name.{Name}
-use Rattle.named.specs.declared.Name.the-variants.{Choice, Trace, Table, Levels, Statistics, Out}
+use Rattle.named.specs.declared.Name.the-variants.{Choice, Trace, Table, Levels, Statistics, Share, Out}
 use Rattle.named.specs.declared.levels.Wanted.{Wanted}
 use Rattle.named.specs.declared.levels.Wanted.the-variants.{Off, Expected, Bad}
 
@@ -53,14 +55,19 @@ module _ (word : List ℕ) {a : Bool} (choice : a ≡ isSame word (written Choic
           unfolding nameOf
           is-statistics e = rw (sym choice ∙ no-a, sym trace ∙ no-b, sym table ∙ no-c, sym levels ∙ no-d, sym statistics ∙ e)
 
-          module _ (no-s : s ≡ false) {o : Bool} (out : o ≡ isSame word (written Out)) where
-            pub is-out : o ≡ true → some Out ≡ nameOf word
+          module _ (no-s : s ≡ false) {h : Bool} (share : h ≡ isSame word (written Share)) where
+            pub is-share : h ≡ true → some Share ≡ nameOf word
             unfolding nameOf
-            is-out e = rw (sym choice ∙ no-a, sym trace ∙ no-b, sym table ∙ no-c, sym levels ∙ no-d, sym statistics ∙ no-s, sym out ∙ e)
+            is-share e = rw (sym choice ∙ no-a, sym trace ∙ no-b, sym table ∙ no-c, sym levels ∙ no-d, sym statistics ∙ no-s, sym share ∙ e)
 
-            pub is-nobody's : o ≡ false → none ≡ nameOf word
-            unfolding nameOf
-            is-nobody's e = rw (sym choice ∙ no-a, sym trace ∙ no-b, sym table ∙ no-c, sym levels ∙ no-d, sym statistics ∙ no-s, sym out ∙ e)
+            module _ (no-h : h ≡ false) {o : Bool} (out : o ≡ isSame word (written Out)) where
+              pub is-out : o ≡ true → some Out ≡ nameOf word
+              unfolding nameOf
+              is-out e = rw (sym choice ∙ no-a, sym trace ∙ no-b, sym table ∙ no-c, sym levels ∙ no-d, sym statistics ∙ no-s, sym share ∙ no-h, sym out ∙ e)
+
+              pub is-nobody's : o ≡ false → none ≡ nameOf word
+              unfolding nameOf
+              is-nobody's e = rw (sym choice ∙ no-a, sym trace ∙ no-b, sym table ∙ no-c, sym levels ∙ no-d, sym statistics ∙ no-s, sym share ∙ no-h, sym out ∙ e)
 
 -- ---- a value that was forgotten
 
@@ -165,13 +172,30 @@ module _ (value : List ℕ) {a : Bool} (off : a ≡ isSame value (bytesOf "off")
     unfolding switchOf
     is-no-switch e = rw (sym off ∙ no-a, sym on ∙ e)
 
+-- ---- the share
+
+module _ (value : List ℕ) {read : Natural} (is : read ≡ naturalIn value) where
+  pub no-share : read ≡ Outside → 1002 ≡ shareOf value
+  unfolding shareOf shareBy
+  no-share e = rw (sym is ∙ e)
+
+  module _ {share : ℕ} (e : read ≡ Of share) where
+    pub too-high : 1000 < share → 1001 ≡ shareOf value
+    unfolding shareOf shareBy
+    too-high h = rw (sym is ∙ e, lt-ltb 1000 share h)
+
+    pub a-share : share ≤ 1000 → share ≡ shareOf value
+    unfolding shareOf shareBy
+    a-share h = rw (sym is ∙ e, le-ltb 1000 share h)
+
 -- ---- no good value is empty
 
 pub empty-bad : (name : Name) → goodFor name [] ≡ false
-unfolding goodFor choiceOf switchOf isSame bytesOf levelsOf isGood threeOf upTo behind expected numeralOf signed hasMinus atMost wholePart unled indexOf
+unfolding goodFor choiceOf switchOf shareOf shareBy naturalIn naturalBy isSame bytesOf levelsOf isGood threeOf upTo behind expected numeralOf signed hasMinus atMost wholePart unled indexOf
 empty-bad Choice = refl
 empty-bad Trace = refl
 empty-bad Table = refl
 empty-bad Levels = refl
 empty-bad Statistics = refl
+empty-bad Share = refl
 empty-bad Out = refl

@@ -1,17 +1,19 @@
--- The six names, and the form that each one's value has.
+-- The seven names, and the form that each one's value has.
 use Prim.Native.Nat.{ℕ}
 use mathlib.Core.Bool.{Bool, true, false, cond, _&&_, not}
 use mathlib.Core.List.{List}
 use mathlib.Core.Option.{Option, none, some}
 use lib.ListN.{length, getD}
-use lib.Dec.{eqb}
+use lib.Dec.{eqb, ltb}
 use Rattle.paper.specs.Text.{bytesOf, isSame}
-use Rattle.numeral.specs.Numeral.{numeralOf}
+use Rattle.signed.specs.declared.Natural.{Natural}
+use Rattle.signed.specs.declared.Natural.the-variants.{Of, Outside}
+use Rattle.numeral.specs.Numeral.{numeralOf, naturalIn}
 use Rattle.paper.specs.declared.Field.{Field}
 use Rattle.paper.specs.declared.Field.the-variants as Field
 use Rattle.named.specs.Words.{upTo, behind}
 use Rattle.named.specs.declared.Name.{Name}
-use Rattle.named.specs.declared.Name.the-variants.{Choice, Trace, Table, Levels, Statistics, Out}
+use Rattle.named.specs.declared.Name.the-variants.{Choice, Trace, Table, Levels, Statistics, Share, Out}
 use Rattle.named.specs.declared.levels.Wanted.{Wanted}
 use Rattle.named.specs.declared.levels.Wanted.the-variants.{Off, Expected, Bad}
 
@@ -23,6 +25,7 @@ written Trace = bytesOf "--trace"
 written Table = bytesOf "--table"
 written Levels = bytesOf "--levels"
 written Statistics = bytesOf "--statistics"
+written Share = bytesOf "--share"
 written Out = bytesOf "--out"
 
 -- whose name a word is: none where it is nobody's
@@ -33,7 +36,8 @@ nameOf word =
     (cond (isSame word (written Table)) (some Table)
     (cond (isSame word (written Levels)) (some Levels)
     (cond (isSame word (written Statistics)) (some Statistics)
-    (cond (isSame word (written Out)) (some Out) none)))))
+    (cond (isSame word (written Share)) (some Share)
+    (cond (isSame word (written Out)) (some Out) none))))))
 
 -- ---- values
 
@@ -70,6 +74,15 @@ isGood Bad = false
 unfoldable pub switchOf : List ℕ → ℕ
 switchOf value = cond (isSame value (bytesOf "off")) 0 (cond (isSame value (bytesOf "on")) 1 2)
 
+-- a share of 0 to 1,000 is itself. Every number above is 1,001, which is refused when it is judged, and what is no number from 0 on is
+-- 1,002, which is no share
+unfoldable pub shareBy : Natural → ℕ
+shareBy (Of share) = cond (ltb 1000 share) 1001 share
+shareBy Outside = 1002
+
+unfoldable pub shareOf : List ℕ → ℕ
+shareOf value = shareBy (naturalIn value)
+
 -- whether a value has its name's form; a file's name is any bytes, but not none
 unfoldable pub goodFor : Name → List ℕ → Bool
 goodFor Choice value = not (eqb (choiceOf value) 0)
@@ -77,4 +90,5 @@ goodFor Trace value = not (eqb (length value) 0)
 goodFor Table value = not (eqb (length value) 0)
 goodFor Levels value = isGood (levelsOf value)
 goodFor Statistics value = not (eqb (switchOf value) 2)
+goodFor Share value = not (eqb (shareOf value) 1002)
 goodFor Out value = not (eqb (length value) 0)

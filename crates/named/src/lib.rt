@@ -1,6 +1,7 @@
 // The words of a line of named arguments: where a word stands, whose name it is, and whether a value has its name's form.
 mod levels;
 mod names;
+mod share;
 mod switch;
 mod values;
 mod words;
@@ -9,6 +10,7 @@ pub use levels::Wanted;
 pub use levels::levels_of;
 pub use names::Found;
 pub use names::name_of;
+pub use share::share_of;
 pub use switch::switch_of;
 pub use values::choice_of;
 pub use values::is_forgotten;
@@ -27,5 +29,6 @@ pub enum Name {
     Table,
     Levels,
     Statistics,
+    Share,
     Out,
 }

@@ -1,4 +1,4 @@
-// The six names.
+// The seven names.
 ghost use mathlib.Core.Path.{_≡_};
 ghost use Rattle.named.specs.Values.{nameOf};
 ghost use Rattle.named.specs.Parts.{foundIn};
@@ -27,6 +27,9 @@ pub fn name_of(word: &[u8]) -> Found
     }
     if texts::is_same(word, b"--statistics") {
         return Found::Is(Name::Statistics);
+    }
+    if texts::is_same(word, b"--share") {
+        return Found::Is(Name::Share);
     }
     if texts::is_same(word, b"--out") {
         return Found::Is(Name::Out);

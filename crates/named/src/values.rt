@@ -3,6 +3,7 @@ ghost use mathlib.Core.Path.{_≡_};
 ghost use Rattle.named.specs.Values.{forgotten, choiceOf, goodFor};
 use crate::Name;
 use crate::levels;
+use crate::share;
 use crate::switch;
 
 // A value that begins with `--` is the next name.
@@ -39,6 +40,7 @@ pub fn is_good(name: Name, value: &[u8]) -> bool
         Name::Table => value.len() != 0,
         Name::Levels => levels::are_good(levels::levels_of(value)),
         Name::Statistics => switch::switch_of(value) != 2,
+        Name::Share => share::share_of(value) != 1002,
         Name::Out => value.len() != 0,
     }
 }

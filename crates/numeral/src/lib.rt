@@ -5,9 +5,10 @@ ghost use mathlib.Core.Path.{_≡_};
 ghost use mathlib.Core.Bool.{true, false};
 ghost use Rattle.paper.specs.Forms.{signed, digitsFrom, atMost};
 ghost use Rattle.forms.specs.Sizes.{number, AtMost, wholePart};
-ghost use Rattle.numeral.specs.Numeral.{numeralOf};
+ghost use Rattle.numeral.specs.Numeral.{numeralOf, naturalIn};
 use forms::Size;
 use paper::Field;
+use signed::Natural;
 
 fn wide(b: u8) -> u64
     ensures { λ r. ⌜ r ≡ b ⌝ }
@@ -96,4 +97,14 @@ pub fn read_number(s: &[u8]) -> Field
     } else {
         without_minus(read_size(s, 9_223_372_036_854_775_807))
     }
+}
+
+// For what is never negative: a line, a share.
+pub fn read_natural(s: &[u8]) -> Natural
+    ensures { λ r. ⌜ r ≡ naturalIn (now (s .entry)) ⌝ }
+{
+    let Field::Good(z) = read_number(s) else {
+        return Natural::Outside;
+    };
+    signed::size(z)
 }

@@ -1,12 +1,13 @@
 -- Document 01, "Numbers a caller gets back", in its order: 1 to 4, the lines, 17 of the first change request, 19 of the eighth, 13 and 14, 15,
 -- which is as far as a call reaches; then 16 and acceptance; and what the lent times and the room hold afterwards.
 use Prim.Native.Nat.{ℕ, zero, suc}
-use mathlib.Core.List.{List, [], _∷_, _++_}
+use mathlib.Core.List.{List, [], _++_}
 use mathlib.Core.Bool.{Bool, true, false, cond, _&&_, not}
 use mathlib.Core.Option.{Option, none, some}
 use lib.ListN.{length, drop}
 use lib.IntN.{ℤ}
 use lib.Dec.{ltb, leb, eqb}
+use Rattle.paper.specs.Tests.{allUpTo}
 use Rattle.paper.specs.Numbers.{numberOf}
 use Rattle.paper.specs.Columns.{nowhere}
 use Rattle.paper.specs.Reading.{Reading, linesOf, readOf}
@@ -53,14 +54,13 @@ choiceOf n = cond (eqb n 1) (some Strict) (cond (eqb n 2) (some Lenient) none)
 unfoldable pub heard : Asked → Option Choice
 heard a = cond (leb (a .levels) 1 && leb (a .statistics) 1) (choiceOf (a .choice)) none
 
--- "exactly 4,096 unsigned whole numbers", "exactly 2,048 signed 64-bit places": false for refusal 2
-unfoldable pub rightLengths : Given → Bool
-rightLengths g = eqb (length (g .latencies)) 4096 && eqb (g .places) (most g)
+-- "exactly 4,096 unsigned whole numbers", "exactly 2,048 signed 64-bit places", and of the share "above 1,000 is refusal 2": false for that
+unfoldable pub rightSizes : Given → Bool
+rightSizes g = eqb (length (g .latencies)) 4096 && eqb (g .places) (most g) && leb (g .asked .share) 1000
 
 -- "each at most 1,000,000"
 unfoldable pub lowLatencies : List ℕ → Bool
-lowLatencies [] = true
-lowLatencies (x ∷ xs) = leb x 1000000 && lowLatencies xs
+lowLatencies xs = allUpTo 1000000 xs
 
 -- ---- how far a call reaches
 
@@ -83,7 +83,7 @@ onSettled choice r (settled rounds times) = found (record { choice = choice; rea
 -- "then the first receive in file order that calls for 13 or 14"
 unfoldable pub onMatched : Given → Choice → Reading → Stop → Reached
 onMatched g choice r (At fault site) = stopped fault site
-onMatched g choice r End = onSettled choice r (settle (waitsOf (g .latencies) (r .entries)))
+onMatched g choice r End = onSettled choice r (settle (waitsOf (g .asked .share) (g .latencies) (r .entries)))
 
 -- "after the line checks and 17, before 13", 19
 unfoldable pub onStatistics : Given → Choice → Reading → Stop → Reached
@@ -106,7 +106,7 @@ onChoice g none = stopped Fault.BadChoice nowhere
 onChoice g (some choice) =
     let reading = readOf choice (most g) (g .trace) in
     let read = onRead g choice reading (reading .stop) in
-    cond (rightLengths g)
+    cond (rightSizes g)
     (cond (lowLatencies (g .latencies)) (cond (leb (length (g .trace)) longest) read (stopped Fault.LongTrace nowhere)) (stopped Fault.HighLatency nowhere))
     (stopped Fault.WrongLength nowhere)
 
@@ -175,7 +175,7 @@ accepted i f written =
         number = 0;
         line = 0;
         column = 0;
-        verdict = verdictOf (matchedCount es) (not (same (f .times) (originals (waitsOf (i .latencies) es))));
+        verdict = verdictOf (matchedCount es) (not (same (f .times) (originals (waitsOf (i .asked .share) (i .latencies) es))));
         listed = length es;
         passed = f .reading .state .passed;
         matched = matchedCount es;

@@ -20,7 +20,8 @@ pub record Steps : Type 0 where
   pub processor : ℕ → Option ℕ
   pub send : ℕ → Option ℕ
 
--- "Starting time plus the chain's latencies equals the moved time": a step is to a record that is waited for exactly so long
+-- "Starting time plus the chain's latencies equals the moved time", and the kept gaps with them (change request 9): a step is to a record that
+-- is waited for exactly so long
 unfoldable pub exactly : (x : ℕ → ℤ) (time : ℤ) (wait : ℕ) → Option ℕ → Option ℕ
 exactly x time wait none = none
 exactly x time wait (some j) = cond (eqZ time (x j +ℤ pos wait)) (some j) none
@@ -61,4 +62,4 @@ unfoldable pub onPlace : Waits → (ℕ → ℤ) → ℕ → List ℕ → Fillin
 onPlace w x place list = cond (ltb place (w .size)) (onList (chainOf w x place) list) (untouched list Fault.NoPlace nowhere)
 
 unfoldable pub chain : Query → ℕ → List ℕ → Filling ℕ
-chain q place list = fill q list (λ f. onPlace (waitsOf (q .latencies) (f .reading .entries)) (timeAt (f .times)) place list)
+chain q place list = fill q list (λ f. onPlace (waitsOf (q .asked .share) (q .latencies) (f .reading .entries)) (timeAt (f .times)) place list)

@@ -14,7 +14,8 @@ abbrev pub limit : ℤ
 limit = pos 999999999999999
 
 -- What the records wait for: how many records there are, and of each its original time, the record before it on its processor
--- with the gap to keep from it, and, for a receive, its send with the latency. The gap is 0 in document 01.
+-- with the gap to keep from it, and, for a receive, its send with the latency. The gap is 0 in document 01; change request 9 says what it is
+-- (Gaps.antt).
 pub record Waits : Type 0 where
   pub size : ℕ
   pub original : ℕ → ℤ
@@ -24,7 +25,8 @@ pub record Waits : Type 0 where
   pub latency : ℕ → ℕ
 
 -- "Times are sound if none is below its original or above 999,999,999,999,999, each listed record is not below the one before
--- it on its processor, and each receive is not below its send plus the latency. Equal times are good."
+-- it on its processor, and each receive is not below its send plus the latency. Equal times are good." Change request 9: "a record must now lie
+-- after its predecessor by at least" the gap.
 pub record Sound (w : Waits) (x : ℕ → ℤ) : Type 0 where
   pub above : (i : ℕ) → i < w .size → w .original i ≤ℤ x i
   pub within : (i : ℕ) → i < w .size → x i ≤ℤ limit
@@ -47,7 +49,7 @@ waited x none weight a = a
 waited x (some j) weight a = later a (x j +ℤ pos weight)
 
 -- "Each next round gives every record the largest of its original, its predecessor's time on the same processor, and, for a
--- receive, its send's time plus latency, both times taken from the round before."
+-- receive, its send's time plus latency, both times taken from the round before.": the predecessor's time plus the gap
 unfoldable pub next : Waits → (ℕ → ℤ) → ℕ → ℤ
 next w x i = waited x (w .send i) (w .latency i) (waited x (w .before i) (w .gap i) (w .original i))
 

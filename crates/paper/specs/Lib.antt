@@ -10,6 +10,7 @@ pub mod Line
 pub mod Columns
 pub mod Reading
 pub mod Levels
+pub mod Gaps
 pub mod Matching
 pub mod Statistics
 pub mod Clock

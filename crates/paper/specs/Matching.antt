@@ -8,6 +8,7 @@ use lib.IntN.{ℤ, pos}
 use lib.Dec.{eqb, leb}
 use Rattle.paper.specs.Tests.{eqZ}
 use Rattle.paper.specs.Columns.{wholeLine}
+use Rattle.paper.specs.Gaps.{gapOf}
 use Rattle.paper.specs.Clock.{Waits}
 use Rattle.paper.specs.declared.Fault.{Fault}
 use Rattle.paper.specs.declared.Fault.the-variants as Fault
@@ -155,13 +156,18 @@ latencyFor latencies processor Neither = 0
 latencyFor latencies processor (Send m) = 0
 latencyFor latencies processor (Receive m) = getD latencies (64 * m .peer + processor) 0
 
-unfoldable pub waitsOf : List ℕ → List Entry → Waits
-waitsOf latencies es =
+-- the gap that is kept of the one between the entry at place i and the one before it on its processor
+unfoldable pub gapFrom : ℕ → List Entry → ℕ → Option ℕ → ℕ
+gapFrom share es i none = 0
+gapFrom share es i (some j) = gapOf share (entryAt es j .body .time) (entryAt es i .body .time)
+
+unfoldable pub waitsOf : (share : ℕ) (latencies : List ℕ) → List Entry → Waits
+waitsOf share latencies es =
     record {
       size = length es;
       original = λ i. entryAt es i .body .time;
       before = λ i. lastOn es (entryAt es i .body .processor) i;
-      gap = λ i. 0;
+      gap = λ i. gapFrom share es i (lastOn es (entryAt es i .body .processor) i);
       send = sendOf es;
       latency = λ i. latencyFor latencies (entryAt es i .body .processor) (entryAt es i .body .role);
     }

@@ -22,4 +22,4 @@ unfoldable pub messagesOf : Waits → List Pair
 messagesOf w = messagesTo (w .send) (w .size)
 
 unfoldable pub messages : Query → List Pair → Filling Pair
-messages q list = fill q list (λ f. onList (messagesOf (waitsOf (q .latencies) (f .reading .entries))) list)
+messages q list = fill q list (λ f. onList (messagesOf (waitsOf (q .asked .share) (q .latencies) (f .reading .entries))) list)

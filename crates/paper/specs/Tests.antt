@@ -1,10 +1,10 @@
--- Tests on signed numbers that the paper's words need.
+-- Tests on numbers that the paper's words need.
 use Prim.Native.Nat.{ℕ}
-use mathlib.Core.Bool.{Bool, false, _&&_, _||_}
+use mathlib.Core.Bool.{Bool, true, false, _&&_, _||_}
 use mathlib.Core.List.{List, [], _∷_}
 use lib.IntN.{ℤ, pos, negsuc, negℤ}
 use lib.Signed.{leZ}
-use lib.Dec.{eqb}
+use lib.Dec.{leb, eqb}
 
 abbrev pub eqZ : ℤ → ℤ → Bool
 eqZ (pos a) (pos b) = eqb a b
@@ -24,3 +24,8 @@ minus n = negℤ (pos n)
 unfoldable pub oneOf : List ℤ → ℤ → Bool
 oneOf [] z = false
 oneOf (a ∷ more) z = eqZ z a || oneOf more z
+
+-- "each at most n"
+unfoldable pub allUpTo : ℕ → List ℕ → Bool
+allUpTo n [] = true
+allUpTo n (x ∷ xs) = leb x n && allUpTo n xs

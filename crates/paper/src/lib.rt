@@ -9,7 +9,8 @@ pub const MOST: usize = 2048;
 pub const LONGEST: usize = 65536;
 
 // What the caller names beside the trace and the table, with no default, laid out as C has it: the choice, whether the tracing levels
-// are asked for, the three that are expected then, in the order of a mark's data, and whether the statistics records are compared.
+// are asked for, the three that are expected then, in the order of a mark's data, whether the statistics records are compared, and how many
+// thousandths of the gap between two records of a processor are kept.
 #[repr(C)]
 pub struct Asked {
     pub choice: u32,
@@ -18,6 +19,7 @@ pub struct Asked {
     pub user: i64,
     pub trace: i64,
     pub statistics: u32,
+    pub share: u32,
 }
 
 // "strict or lenient"

@@ -17,10 +17,7 @@ fn fit(n: usize, first: usize, second: usize, queue: usize, after: usize, receiv
     if store::TOO_MANY <= n {
         return false;
     }
-    if first != n {
-        return false;
-    }
-    engine::all_are(n, second, queue, after, receive)
+    engine::all_are(n, first, second, queue, after, receive)
 }
 
 // Puts a number into a place, where there is such a place.

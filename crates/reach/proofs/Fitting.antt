@@ -3,7 +3,7 @@ use Prim.Native.Nat.{ℕ, _≤_}
 use native.Mathlib.Omega.{arith}
 use mathlib.Core.Path.{_≡_, refl, sym, _∙_}
 use mathlib.Core.List.{List, [], _∷_}
-use mathlib.Core.Bool.{Bool, true, false, cond}
+use mathlib.Core.Bool.{Bool, true, false}
 use lib.ListN.{length}
 use lib.IntN.{ℤ}
 use lib.Dec.{eqb}
@@ -14,6 +14,7 @@ use Rattle.paper.specs.Statistics.{summed}
 use Rattle.paper.specs.declared.Choice.{Choice}
 use Rattle.store.specs.Layout.{capacity}
 use Rattle.engine.specs.Promise.{allAre}
+use Rattle.engine.proofs.Lengths.{first-equal, all-equal}
 use Rattle.forms.proofs.Tests.{both}
 use Rattle.reach.specs.declared.Reached.{Reached}
 use Rattle.reach.specs.declared.Reached.the-variants.{Misfit}
@@ -38,10 +39,10 @@ module _ (n room times : ℕ) (lengths : List ℕ) where
 
 -- ---- what it tells
 
-module _ (g : Given) (store sends before latency : List ℕ) (times spare : List ℤ) {space : ℕ} (holds : space ≡ capacity store) {told : Bool}
-    (tells : told ≡ fits (most g) space (length times ∷ length sends ∷ length before ∷ length latency ∷ length spare ∷ [])) where
+module _ (g : Given) (store sends before gap latency : List ℕ) (times spare : List ℤ) {space : ℕ} (holds : space ≡ capacity store) {told : Bool}
+    (tells : told ≡ fits (most g) space (length times ∷ length sends ∷ length before ∷ length gap ∷ length latency ∷ length spare ∷ [])) where
   abbrev fit : Bool
-  fit = fits (most g) (capacity store) (length times ∷ length sends ∷ length before ∷ length latency ∷ length spare ∷ [])
+  fit = fits (most g) (capacity store) (length times ∷ length sends ∷ length before ∷ length gap ∷ length latency ∷ length spare ∷ [])
 
   is-told : fit ≡ told
   is-told = rw (← holds) (sym tells)
@@ -56,36 +57,25 @@ module _ (g : Given) (store sends before latency : List ℕ) (times spare : List
     answered store′ sends′ times′ r says =
         rw (is-told, fitted) (record { answers = λ z. says; misfits = λ z. absurd (let q : _≡_ {A = ℕ} 0 1 = cc in omega arith) })
 
-    -- each of the lengths
-    next : (m : ℕ) (ms : List ℕ) → allAre (capacity store) (m ∷ ms) ≡ true → (m ≡ capacity store) × (allAre (capacity store) ms ≡ true)
-    unfolding allAre
-    next m ms e = let (here, more) = go (eqb m (capacity store)) (allAre (capacity store) ms) e in (eqb-true m (capacity store) here, more)
-      where
-        go : (a b : Bool) → cond a b false ≡ true → (a ≡ true) × (b ≡ true)
-        go true b e = (refl, e)
-        go false b e = (cc, cc)
-
     whole : (capacity store ≡ most g)
-        × (allAre (capacity store) (length times ∷ length sends ∷ length before ∷ length latency ∷ length spare ∷ []) ≡ true)
+        × (allAre (capacity store) (length times ∷ length sends ∷ length before ∷ length gap ∷ length latency ∷ length spare ∷ []) ≡ true)
     unfolding fits
     whole =
-        let (room, all) = both (eqb (capacity store) (most g)) (allAre (capacity store) (length times ∷ length sends ∷ length before ∷ length latency ∷ length spare ∷ [])) (is-told ∙ fitted) in
+        let (room, all) = both (eqb (capacity store) (most g)) (allAre (capacity store) (length times ∷ length sends ∷ length before ∷ length gap ∷ length latency ∷ length spare ∷ [])) (is-told ∙ fitted) in
         (eqb-true (capacity store) (most g) room, all)
 
-    pub sized : most g ≤ summed → Sized (capacity store) sends before latency times spare
+    pub sized : most g ≤ summed → Sized (capacity store) sends before gap latency times spare
     sized few =
-        let a = next (length times) (length sends ∷ length before ∷ length latency ∷ length spare ∷ []) (whole .1) in
-        let b = next (length sends) (length before ∷ length latency ∷ length spare ∷ []) (a .1) in
-        let c = next (length before) (length latency ∷ length spare ∷ []) (b .1) in
-        let d = next (length latency) (length spare ∷ []) (c .1) in
-        let e = next (length spare) [] (d .1) in
+        let (t, rest) = first-equal (capacity store) (length times) _ (whole .1) in
+        let (s, b, k, l, p) = all-equal (capacity store) _ _ _ _ _ rest in
         record {
           few = rw (whole .0) few;
-          all-sends = b .0;
-          all-before = c .0;
-          all-latency = d .0;
-          all-times = a .0;
-          all-spare = e .0;
+          all-sends = s;
+          all-before = b;
+          all-gap = k;
+          all-latency = l;
+          all-times = t;
+          all-spare = p;
         }
 
     -- the lines read from the state that 1 to 4 leave

@@ -1,5 +1,5 @@
 -- What a caller learns of a call that found its times.
-use Prim.Native.Nat.{ℕ}
+use Prim.Native.Nat.{ℕ, _≤_}
 use mathlib.Core.Path.{_≡_, refl}
 use mathlib.Core.Bool.{Bool, true, false, cond}
 use mathlib.Core.Option.{Option, none, some}
@@ -7,12 +7,13 @@ use native.Mathlib.Omega.{arith}
 use lib.ListN.{length}
 use lib.Dec.{leb}
 use Rattle.paper.specs.Columns.{nowhere}
-use Rattle.paper.specs.Answer.{Given, Found, stopped, found, most, longest, heard, rightLengths, lowLatencies, onSettled, onMatched, onStatistics, onLevels, onRead, onChoice, reach}
+use Rattle.paper.specs.Answer.{Given, Found, stopped, found, most, longest, heard, rightSizes, lowLatencies, onSettled, onMatched, onStatistics, onLevels, onRead, onChoice, reach}
 use Rattle.paper.specs.Clock.{Settled, impossible, settled, settle}
 use Rattle.paper.specs.Levels.{levelsOf}
 use Rattle.paper.specs.Statistics.{statisticsOf}
 use Rattle.paper.specs.Matching.{matchedOf, waitsOf}
 use Rattle.paper.specs.Reading.{Reading, readOf}
+use Rattle.clearance.proofs.Clearing.{places-right, share-low}
 use Rattle.paper.specs.declared.Choice.{Choice}
 use Rattle.paper.specs.declared.Fault.{Fault}
 use Rattle.paper.specs.declared.Site.{Site}
@@ -22,13 +23,14 @@ use Rattle.paper.specs.declared.Stop.the-variants.{End, At}
 
 -- the checks that it passed, and what was found
 pub record Means (g : Given) (f : Found) : Type 0 where
-  pub lengths : rightLengths g ≡ true
+  pub places : g .places ≡ most g
+  pub share : g .asked .share ≤ 1000
   pub reading : f .reading ≡ readOf (f .choice) (most g) (g .trace)
   pub whole : f .reading .stop ≡ End
   pub levels : levelsOf (g .asked) (f .reading .entries) ≡ End
   pub statistics : statisticsOf (g .asked) (g .trace) (f .reading .entries) ≡ End
   pub matches : matchedOf (f .reading .entries) ≡ End
-  pub settles : settle (waitsOf (g .latencies) (f .reading .entries)) ≡ settled (f .rounds) (f .times)
+  pub settles : settle (waitsOf (g .asked .share) (g .latencies) (f .reading .entries)) ≡ settled (f .rounds) (f .times)
 
 -- a stop is no find
 never : {A : Type 0} {fault : Fault} {site : Site} {f : Found} → stopped fault site ≡ found f → A
@@ -46,15 +48,24 @@ module _ (g : Given) (f : Found) where
       let q : f ≡ record { choice = choice; reading = r; rounds = rounds; times = times } = cc in
       (rw q, rw q)
 
-  module _ (lengths : rightLengths g ≡ true) (choice : Choice) where
+  module _ (sizes : rightSizes g ≡ true) (choice : Choice) where
     on-matched : r choice .stop ≡ End → levelsOf (g .asked) (r choice .entries) ≡ End → statisticsOf (g .asked) (g .trace) (r choice .entries) ≡ End
         → (x : Stop) → matchedOf (r choice .entries) ≡ x → onMatched g choice (r choice) x ≡ found f → Means g f
     unfolding onMatched
     on-matched whole levels statistics (At fault site) p e = never e
     on-matched whole levels statistics End p e =
-        let (is, settles) = on-settled choice (r choice) (settle (waitsOf (g .latencies) (r choice .entries))) e in
+        let (is, settles) = on-settled choice (r choice) (settle (waitsOf (g .asked .share) (g .latencies) (r choice .entries))) e in
         rw is
-        (record { lengths = lengths; reading = refl; whole = whole; levels = levels; statistics = statistics; matches = p; settles = settles })
+        (record {
+          places = places-right g sizes;
+          share = share-low g sizes;
+          reading = refl;
+          whole = whole;
+          levels = levels;
+          statistics = statistics;
+          matches = p;
+          settles = settles;
+        })
 
     on-statistics : r choice .stop ≡ End → levelsOf (g .asked) (r choice .entries) ≡ End
         → (x : Stop) → statisticsOf (g .asked) (g .trace) (r choice .entries) ≡ x → onStatistics g choice (r choice) x ≡ found f → Means g f
@@ -75,9 +86,9 @@ module _ (g : Given) (f : Found) where
   on-choice : (h : Option Choice) → onChoice g h ≡ found f → Means g f
   unfolding onChoice
   on-choice none e = never e
-  on-choice (some choice) e = go (rightLengths g) (lowLatencies (g .latencies)) (leb (length (g .trace)) longest) refl e
+  on-choice (some choice) e = go (rightSizes g) (lowLatencies (g .latencies)) (leb (length (g .trace)) longest) refl e
     where
-      go : (a b c : Bool) → rightLengths g ≡ a
+      go : (a b c : Bool) → rightSizes g ≡ a
           → cond a
           (cond b (cond c (onRead g choice (r choice) (r choice .stop)) (stopped Fault.LongTrace nowhere)) (stopped Fault.HighLatency nowhere))
           (stopped Fault.WrongLength nowhere)

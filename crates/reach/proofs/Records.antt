@@ -16,14 +16,16 @@ use Rattle.paper.specs.declared.Site.{Site}
 use Rattle.paper.specs.declared.Stop.{Stop}
 use Rattle.paper.specs.declared.Stop.the-variants.{End, At}
 use Rattle.reading.specs.Starts.{startOf}
+use Rattle.reading.specs.Tidy.{TidyRecord}
 use Rattle.reading.proofs.Starts.{start-within}
 use Rattle.store.specs.Layout.{capacity, entryFrom, entriesIn, startFrom}
-use Rattle.store.proofs.Laws.{start-stored, entry-in}
+use Rattle.store.proofs.Laws.{start-stored, length-entries, entry-in}
 use Rattle.trace.specs.Read.{ReadInto}
 use Rattle.trace.specs.declared.Read.{Read}
 use Rattle.trace.proofs.Entries.{entries-small}
 use Rattle.trace.proofs.Into.{stop-is, listed-is, passed-is, few-listed, same-capacity, entries-are}
-use Rattle.solve.specs.Outcome.{solvedBy}
+use Rattle.waits.proofs.Gaps.{gaps-narrow}
+use Rattle.solve.specs.Outcome.{Keepable, solvedBy}
 use Rattle.solve.specs.declared.Solved.{Solved}
 use Rattle.solve.specs.declared.Solved.the-variants as Solved
 use Rattle.reach.specs.declared.Reached.{Reached}
@@ -42,16 +44,17 @@ module _ (choice : Choice) (trace store₀ : List ℕ) (r : Read) (store : List 
   few-stored = rw (same-capacity into) (few-listed into)
 
   -- slices made for as many records as the store are made for those that were read, whatever was written into them
-  pub ready : {sends before latency : List ℕ} {times spare : List ℤ} → Sized (capacity store₀) sends before latency times spare
+  pub ready : {sends before gap latency : List ℕ} {times spare : List ℤ} → Sized (capacity store₀) sends before gap latency times spare
       → {before′ latency′ : List ℕ} {times′ spare′ : List ℤ}
       → length before′ ≡ length before → length latency′ ≡ length latency → length times′ ≡ length times → length spare′ ≡ length spare
-      → Sized (length sends) sends before′ latency′ times′ spare′ × ((r .listed ≤ length sends) × (r .listed ≤ capacity store))
+      → Sized (length sends) sends before′ gap latency′ times′ spare′ × ((r .listed ≤ length sends) × (r .listed ≤ capacity store))
   ready z a b c d =
       let all = z .all-sends in (
         record {
           few = rw all (z .few);
           all-sends = refl;
           all-before = a ∙ z .all-before ∙ sym all;
+          all-gap = z .all-gap ∙ sym all;
           all-latency = b ∙ z .all-latency ∙ sym all;
           all-times = c ∙ z .all-times ∙ sym all;
           all-spare = d ∙ z .all-spare ∙ sym all;
@@ -69,7 +72,10 @@ module _ (choice : Choice) (trace store₀ : List ℕ) (r : Read) (store : List 
     stored-at : (k : ℕ) → k < r .listed → entryFrom store k ≡ entryAt (whole .entries) k
     stored-at k l = sym (entry-in store (r .listed) k l) ∙ ap (λ (es : List Entry). entryAt es k) (entries-are into short)
 
-    pub comparable : {sends before latency : List ℕ} {times spare : List ℤ} → Sized (capacity store₀) sends before latency times spare
+    tidy-at : (k : ℕ) → k < r .listed → TidyRecord (entryFrom store k .body)
+    tidy-at k l = rw (stored-at k l) (small-at (whole .entries) (entries-small choice (capacity store₀) trace short) k (rw (listed-is into) l) .tidy)
+
+    pub comparable : {sends before gap latency : List ℕ} {times spare : List ℤ} → Sized (capacity store₀) sends before gap latency times spare
         → Comparable trace store (r .listed) before latency times spare
     comparable z =
         record {
@@ -79,14 +85,25 @@ module _ (choice : Choice) (trace store₀ : List ℕ) (r : Read) (store : List 
           all-times = z .all-times ∙ sym (z .all-before);
           all-spare = z .all-spare ∙ sym (z .all-before);
           holding = record {
-            tidy = λ k l. rw (stored-at k l) (small-at (whole .entries) (entries-small choice (capacity store₀) trace short) k (rw (listed-is into) l) .tidy);
+            tidy = tidy-at;
             stands = λ k l. rw (stored-at k l) (starts-are k l);
           };
         }
 
+    -- every gap that is kept is one between two times of the trace
+    pub keepable : {share : ℕ} → share ≤ 1000 → Keepable share (entriesIn store (r .listed))
+    keepable {share} few =
+        record {
+          few = few;
+          narrow =
+              gaps-narrow share (entriesIn store (r .listed)) few
+              (λ k l. let inside : k < r .listed = rw (length-entries store (r .listed)) at l in
+              rw (entry-in store (r .listed) k inside) (tidy-at k inside .time));
+        }
+
     -- "then the first receive in file order that calls for 13 or 14 ..; then 15"
     module _ (latencies sends : List ℕ) (times : List ℤ) (g : Given) (table : g .latencies ≡ latencies) where
-      solved-reaches : (x : Solved) → solvedBy latencies (entriesIn store (r .listed)) x (take (r .listed) sends) (take (r .listed) times)
+      solved-reaches : (x : Solved) → solvedBy (g .asked .share) latencies (entriesIn store (r .listed)) x (take (r .listed) sends) (take (r .listed) times)
           → reaches trace (onMatched g choice whole (matchedOf (whole .entries))) (asReached (r .listed) (r .passed) x) store sends times
       unfolding reaches asReached solvedBy onMatched onSettled
       solved-reaches (Solved.Times matched unreceived rounds) by =
@@ -136,7 +153,7 @@ module _ (choice : Choice) (trace store₀ : List ℕ) (r : Read) (store : List 
       line-refused fault site e sends times places = onward places ∙ rw e
 
       pub lines-read : stop ≡ End → {x : Reached} {sends : List ℕ} {times : List ℤ}
-          → SettledBy latencies (entriesIn store (r .listed)) (r .listed) (r .passed) x sends times
+          → SettledBy (asked .share) latencies (entriesIn store (r .listed)) (r .listed) (r .passed) x sends times
           → fromLines trace latencies asked choice whole x store sends times
       unfolding fromLines onStatistics
       lines-read e {x} {sends} {times} s places =

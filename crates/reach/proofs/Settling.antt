@@ -14,7 +14,7 @@ use Rattle.paper.specs.Statistics.{summed}
 use Rattle.store.specs.Layout.{tooMany, capacity, entriesIn}
 use Rattle.engine.specs.Promise.{allAre}
 use Rattle.solve.specs.declared.Solved.{Solved}
-use Rattle.solve.specs.Outcome.{fitting, SolvedInto}
+use Rattle.solve.specs.Outcome.{fitting, Keepable, SolvedInto}
 use Rattle.reach.specs.declared.Reached.{Reached}
 use Rattle.reach.specs.Lines.{Sized, asReached, SettledBy}
 
@@ -25,12 +25,12 @@ part-long l {n} {listed} e h = rw sub-zero (length-take-le listed l (omega arith
 abbrev pub first : {A : Type 0} → ℕ → List A → List A
 first listed l = take (listed - 0) l
 
-module _ (latencies store : List ℕ) (listed passed : ℕ) {n : ℕ} {sends before latency : List ℕ} {times spare : List ℤ}
-    (sized : Sized n sends before latency times spare) (few : listed ≤ n) (room : listed ≤ capacity store) (r : Solved) (sends′ : List ℕ) (times′ : List ℤ)
+module _ (share : ℕ) (latencies store : List ℕ) (listed passed : ℕ) {n : ℕ} {sends before gap latency : List ℕ} {times spare : List ℤ}
+    (sized : Sized n sends before gap latency times spare) (few : listed ≤ n) (room : listed ≤ capacity store) (r : Solved) (sends′ : List ℕ) (times′ : List ℤ)
     (into : SolvedInto
     (fitting (length (first listed times)) (capacity store)
-    (length (first listed sends) ∷ length (first listed before) ∷ length (first listed latency) ∷ length (first listed spare) ∷ []))
-    latencies (entriesIn store (length (first listed times))) r sends′ times′)
+    (length (first listed sends) ∷ length (first listed before) ∷ length (first listed gap) ∷ length (first listed latency) ∷ length (first listed spare) ∷ []))
+    share latencies (entriesIn store (length (first listed times))) r sends′ times′)
     (all-sends : length sends′ ≡ length (first listed sends)) (all-times : length times′ ≡ length (first listed times)) where
   many : length (first listed times) ≡ listed
   many = part-long times (sized .all-times) few
@@ -39,13 +39,14 @@ module _ (latencies store : List ℕ) (listed passed : ℕ) {n : ℕ} {sends bef
   all = part-long sends (sized .all-sends) few
 
   fits : fitting (length (first listed times)) (capacity store)
-      (length (first listed sends) ∷ length (first listed before) ∷ length (first listed latency) ∷ length (first listed spare) ∷ []) ≡ true
+      (length (first listed sends) ∷ length (first listed before) ∷ length (first listed gap) ∷ length (first listed latency) ∷ length (first listed spare) ∷ []) ≡ true
   unfolding fitting allAre summed
   fits =
       rw (
         many,
         all,
         part-long before (sized .all-before) few,
+        part-long gap (sized .all-gap) few,
         part-long latency (sized .all-latency) few,
         part-long spare (sized .all-spare) few,
         lt-ltb listed tooMany (omega (arith, sized .few)),
@@ -53,10 +54,10 @@ module _ (latencies store : List ℕ) (listed passed : ℕ) {n : ℕ} {sends bef
         eq-eqb listed listed refl,
       )
 
-  pub settled : (more : List ℕ) (later : List ℤ) (x : Reached) → x ≡ asReached listed passed r
-      → SettledBy latencies (entriesIn store listed) listed passed x (sends′ ++ more) (times′ ++ later)
-  settled more later x e =
-      let solves = rw many at (into .answers fits) in
+  pub settled : Keepable share (entriesIn store listed) → (more : List ℕ) (later : List ℤ) (x : Reached) → x ≡ asReached listed passed r
+      → SettledBy share latencies (entriesIn store listed) listed passed x (sends′ ++ more) (times′ ++ later)
+  settled keep more later x e =
+      let solves = rw many at (into .answers fits (rw many keep)) in
       record {
         answer = r;
         is = e;

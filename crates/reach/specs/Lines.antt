@@ -1,5 +1,5 @@
--- What the functions behind 1 to 4 have in hand, and what they come to. Of what the caller named only the levels and the statistics are still
--- asked, and how many times are lent is not.
+-- What the functions behind 1 to 4 have in hand, and what they come to. Of what the caller named the levels, the statistics and the share are
+-- still asked, and how many times are lent is not.
 use Prim.Native.Nat.{ℕ, _≤_}
 use mathlib.Core.Path.{_≡_}
 use mathlib.Core.List.{List}
@@ -26,10 +26,11 @@ use Rattle.clearance.specs.Clearance.{givenOf}
 use Rattle.reach.specs.Reach.{reaches}
 
 -- slices for n records each, so few that their times are summed; a place is then a number of 32 bits
-pub record Sized (n : ℕ) (sends before latency : List ℕ) (times spare : List ℤ) : Type 0 where
+pub record Sized (n : ℕ) (sends before gap latency : List ℕ) (times spare : List ℤ) : Type 0 where
   pub few : n ≤ summed
   pub all-sends : length sends ≡ n
   pub all-before : length before ≡ n
+  pub all-gap : length gap ≡ n
   pub all-latency : length latency ≡ n
   pub all-times : length times ≡ n
   pub all-spare : length spare ≡ n
@@ -44,10 +45,10 @@ asReached listed passed (Solved.Refused fault site) = Refused fault site
 asReached listed passed Solved.Impossible = Refused Fault.NoTimes nowhere
 asReached listed passed Solved.Misfit = Misfit
 
-pub record SettledBy (latencies : List ℕ) (es : List Entry) (listed passed : ℕ) (r : Reached) (sends : List ℕ) (times : List ℤ) : Type 0 where
+pub record SettledBy (share : ℕ) (latencies : List ℕ) (es : List Entry) (listed passed : ℕ) (r : Reached) (sends : List ℕ) (times : List ℤ) : Type 0 where
   pub answer : Solved
   pub is : r ≡ asReached listed passed answer
-  pub solves : solvedBy latencies es answer (take listed sends) (take listed times)
+  pub solves : solvedBy share latencies es answer (take listed sends) (take listed times)
 
 -- ---- from the lines on
 

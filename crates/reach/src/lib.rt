@@ -30,10 +30,11 @@ fn fit(
     times: usize,
     sends: usize,
     before: usize,
+    gap: usize,
     latency: usize,
     spare: usize,
 ) -> bool
-    ensures { λ r. ⌜ r ≡ fits n room (times ∷ sends ∷ before ∷ latency ∷ spare ∷ []) ⌝ }
+    ensures { λ r. ⌜ r ≡ fits n room (times ∷ sends ∷ before ∷ gap ∷ latency ∷ spare ∷ []) ⌝ }
 {
     if room != n {
         return false;
@@ -41,10 +42,10 @@ fn fit(
     if times != room {
         return false;
     }
-    engine::all_are(room, sends, before, latency, spare)
+    engine::all_are(room, sends, before, gap, latency, spare)
 }
 
-// `places` is how many times the caller lends. Of the other slices `before`, `latency` and `spare` are room for the work.
+// `places` is how many times the caller lends. Of the other slices `before`, `gap`, `latency` and `spare` are room for the work.
 pub fn reach(
     trace: &[u8],
     latencies: &[u32],
@@ -53,11 +54,12 @@ pub fn reach(
     store: &mut [u32],
     sends: &mut [u32],
     before: &mut [u32],
+    gap: &mut [u64],
     latency: &mut [u32],
     times: &mut [i64],
     spare: &mut [i64],
 ) -> Reached
-    ensures { λ r. ⌜ ReachedBy (fits (most (givenOf (now (trace .entry)) (now (latencies .entry)) asked places)) (capacity (now (store .entry))) (length (now (times .entry)) ∷ length (now (sends .entry)) ∷ length (now (before .entry)) ∷ length (now (latency .entry)) ∷ length (now (spare .entry)) ∷ [])) (givenOf (now (trace .entry)) (now (latencies .entry)) asked places) r (now (store .exit)) (now (sends .exit)) (now (times .exit)) ⌝ }
+    ensures { λ r. ⌜ ReachedBy (fits (most (givenOf (now (trace .entry)) (now (latencies .entry)) asked places)) (capacity (now (store .entry))) (length (now (times .entry)) ∷ length (now (sends .entry)) ∷ length (now (before .entry)) ∷ length (now (gap .entry)) ∷ length (now (latency .entry)) ∷ length (now (spare .entry)) ∷ [])) (givenOf (now (trace .entry)) (now (latencies .entry)) asked places) r (now (store .exit)) (now (sends .exit)) (now (times .exit)) ⌝ }
 {
     let room = store::capacity(store);
     if !fit(
@@ -66,6 +68,7 @@ pub fn reach(
         times.len(),
         sends.len(),
         before.len(),
+        gap.len(),
         latency.len(),
         spare.len(),
     ) {
@@ -82,6 +85,7 @@ pub fn reach(
                 store,
                 sends,
                 before,
+                gap,
                 latency,
                 times,
                 spare,

@@ -5,6 +5,7 @@ ghost use lib.ListN.{length};
 ghost use Rattle.paper.specs.Answer.{longest};
 ghost use Rattle.paper.specs.Reading.{readOf};
 ghost use Rattle.store.specs.Layout.{capacity, entriesIn};
+ghost use Rattle.solve.specs.Outcome.{Keepable};
 ghost use Rattle.reach.specs.Lines.{Sized, asReached, SettledBy, levelled, Comparable, compared, fromLines};
 use crate::Reached;
 use answer::Counts;
@@ -36,24 +37,29 @@ fn told(listed: usize, passed: usize, solved: Solved) -> Reached
 // The times of the records that were read.
 fn settle(
     latencies: &[u32],
+    share: u32,
     store: &[u32],
     listed: usize,
     passed: usize,
     sends: &mut [u32],
     before: &mut [u32],
+    gap: &mut [u64],
     latency: &mut [u32],
     times: &mut [i64],
     spare: &mut [i64],
 ) -> Reached
-    requires { ⌜ Sized (length (now sends)) (now sends) (now before) (now latency) (now times) (now spare) ⌝ }
+    requires { ⌜ Sized (length (now sends)) (now sends) (now before) (now gap) (now latency) (now times) (now spare) ⌝ }
     requires { ⌜ (listed ≤ length (now sends)) × (listed ≤ capacity (now store)) ⌝ }
-    ensures { λ r. ⌜ SettledBy (now (latencies .entry)) (entriesIn (now (store .entry)) listed) listed passed r (now (sends .exit)) (now (times .exit)) ⌝ }
+    requires { ⌜ Keepable share (entriesIn (now store) listed) ⌝ }
+    ensures { λ r. ⌜ SettledBy share (now (latencies .entry)) (entriesIn (now (store .entry)) listed) listed passed r (now (sends .exit)) (now (times .exit)) ⌝ }
 {
     let solved = solve::solve(
         store,
         latencies,
+        share,
         &mut sends[0..listed],
         &mut before[0..listed],
+        &mut gap[0..listed],
         &mut latency[0..listed],
         &mut times[0..listed],
         &mut spare[0..listed],
@@ -112,12 +118,13 @@ pub(crate) fn read(
     store: &mut [u32],
     sends: &mut [u32],
     before: &mut [u32],
+    gap: &mut [u64],
     latency: &mut [u32],
     times: &mut [i64],
     spare: &mut [i64],
 ) -> Reached
-    requires { ⌜ length (now trace) ≤ longest ⌝ }
-    requires { ⌜ Sized (capacity (now store)) (now sends) (now before) (now latency) (now times) (now spare) ⌝ }
+    requires { ⌜ (length (now trace) ≤ longest) × (asked .share ≤ 1000) ⌝ }
+    requires { ⌜ Sized (capacity (now store)) (now sends) (now before) (now gap) (now latency) (now times) (now spare) ⌝ }
     ensures { λ r. ⌜ fromLines (now (trace .entry)) (now (latencies .entry)) asked choice (readOf choice (capacity (now (store .entry))) (now (trace .entry))) r (now (store .exit)) (now (sends .exit)) (now (times .exit)) ⌝ }
 {
     let read = trace::read_trace(choice, trace, store);
@@ -137,11 +144,13 @@ pub(crate) fn read(
         Stop::At(fault, site) => Reached::Refused(fault, site),
         Stop::End => settle(
             latencies,
+            asked.share,
             store,
             read.listed,
             read.passed,
             sends,
             before,
+            gap,
             latency,
             times,
             spare,

@@ -30,7 +30,7 @@ fn append_argument(line: &mut [u8], at: usize, k: usize) -> usize
     append(line, at, &word[..n])
 }
 
-// Fifteen arguments find room in 65,536 bytes, and of thirteen one is bad: nothing that is left out behind them could change what is said.
+// Fifteen arguments find room in 65,536 bytes, and of fifteen one is bad: nothing that is left out behind them could change what is said.
 pub(crate) fn arguments(line: &mut [u8; 65536]) -> usize
     ensures { λ r. ⌜ Counts r (now (line .exit)) ⌝ }
 {

@@ -1,6 +1,6 @@
-// The program `canary --choice strict|lenient --trace FILE --table FILE --levels PICL,USER,TRACE|off --statistics on|off [--out FILE]`, for
-// those who run a rollout. What it says is a function of its arguments, of what its files hold and of whether OUT could be written
-// (specs/Program.antt); the functions here ask the system for its arguments and print what is said.
+// The program `canary --choice strict|lenient --trace FILE --table FILE --levels PICL,USER,TRACE|off --statistics on|off --share N
+// [--out FILE]`, for those who run a rollout. What it says is a function of its arguments, of what its files hold and of whether OUT could
+// be written (specs/Program.antt); the functions here ask the system for its arguments and print what is said.
 mod join;
 
 ghost use Rattle.files.specs.Told.{ByFiles};

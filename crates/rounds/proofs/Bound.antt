@@ -4,9 +4,10 @@ use Prim.Native.Nat.{ℕ, zero, suc, _+_, _≤_, _<_}
 use native.Mathlib.Omega.{arith}
 use lib.IntN.{ℤ}
 use lib.Signed.{_≤ℤ_, clashℤ}
+use Rattle.paper.specs.Gaps.{apart}
 use Rattle.paper.specs.Clock.{Waits, Sound, round, Repeats}
 use Rattle.rounds.specs.Meaning.{Closed}
-use Rattle.rounds.proofs.Order.{≤ℤ-antisym, compare, apart, apart-le, apart-back, apart-wait}
+use Rattle.rounds.proofs.Order.{≤ℤ-antisym, compare, apart-le, apart-back, apart-wait}
 use Rattle.rounds.proofs.Counting.{count, count-le, count-more}
 use Rattle.rounds.proofs.Rounds.{sound-wait, round-up, round-below}
 use Rattle.rounds.proofs.Cause.{Moves, Cause, moved-by}

@@ -1,4 +1,4 @@
--- Larger latencies, all else the same: no time is earlier, and what is impossible stays so.
+-- Larger latencies and gaps, all else the same: no time is earlier, and what is impossible stays so.
 use Prim.Native.Nat.{ℕ, _≤_, _<_}
 use mathlib.Core.Path.{_≡_, _∙_}
 use mathlib.Core.List.{List}

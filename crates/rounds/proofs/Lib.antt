@@ -1,5 +1,6 @@
 -- The theorems on the clock condition, a file to each, from the numbers up.
 pub mod Order
+pub mod Gaps
 pub mod Counting
 pub mod Next
 pub mod Rounds

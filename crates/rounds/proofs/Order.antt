@@ -7,6 +7,7 @@ use mathlib.Core.Bool.{Bool, true, false, cond}
 use lib.IntN.{ℤ, pos, negsuc, _+ℤ_}
 use lib.Signed.{ltZ, _≤ℤ_, _<ℤ_, leZ-yes, ltZ-yes, ltZ-no}
 use lib.Dec.{T, ltb, leb→le, le→leb, ltb→lt, lt→ltb, not-T}
+use Rattle.paper.specs.Gaps.{apart}
 use Rattle.paper.specs.Clock.{later}
 
 -- the two cases of a test
@@ -76,10 +77,28 @@ sum-le {a} {b} {v} {u} h k =
     le-height floor (a +ℤ pos v) (b +ℤ pos u) (omega (arith, depth-add b u))
     (omega (arith, height-le floor h, height-add floor a v (omega arith), height-add floor b u (omega arith)))
 
+-- a wait makes nothing earlier
+pub sum-up : (a : ℤ) (v : ℕ) → a ≤ℤ (a +ℤ pos v)
+sum-up a v = let floor = depth a in le-height floor a (a +ℤ pos v) (depth-add a v) (omega (arith, height-add floor a v (omega arith)))
+
 pub sum-back : (a b : ℤ) (v : ℕ) → (a +ℤ pos v) ≤ℤ (b +ℤ pos v) → a ≤ℤ b
 sum-back a b v h =
     let floor = depth a + depth b in
     le-height floor a b (omega arith) (omega (arith, height-le floor h, height-add floor a v (omega arith), height-add floor b v (omega arith)))
+
+-- one wait behind the other
+pub sum-sum : (a b c : ℤ) (u v : ℕ) → (a +ℤ pos u) ≤ℤ b → (b +ℤ pos v) ≤ℤ c → (a +ℤ pos (u + v)) ≤ℤ c
+sum-sum a b c u v h k =
+    let floor = depth a + depth b + depth c in
+    le-height floor (a +ℤ pos (u + v)) c (omega arith)
+    (omega (
+      arith,
+      height-le floor h,
+      height-le floor k,
+      height-add floor a u (omega arith),
+      height-add floor b v (omega arith),
+      height-add floor a (u + v) (omega arith),
+    ))
 
 -- either order
 pub compare : {X : Type 0} (a b : ℤ) → (a <ℤ b → X) → (b ≤ℤ a → X) → X
@@ -90,13 +109,7 @@ pub later-is : (P : ℤ → Type 0) (a b : ℤ) → (b ≤ℤ a → P a) → (a 
 later-is P a b first second =
     test P (ltZ a b) b a (λ h. second (<ℤ-le (ltZ-yes h))) (λ h. first (ltZ-no (not-T (ltZ a b) h)))
 
--- ---- how far a is below b, 0 where it is not
-
-abbrev pub apart : ℤ → ℤ → ℕ
-apart (pos m) (pos n) = n - m
-apart (pos m) (negsuc n) = 0
-apart (negsuc m) (pos n) = n + suc m
-apart (negsuc m) (negsuc n) = m - n
+-- ---- how far a is below b, 0 where it is not: `apart`
 
 apart-height : (floor : ℕ) (a b : ℤ) → depth a ≤ floor → depth b ≤ floor → apart a b ≡ height floor b - height floor a
 apart-height floor (pos m) (pos n) d e = omega arith
@@ -135,4 +148,26 @@ apart-wait a b {c} v h =
       depth-add a v,
       apart-height floor a b (omega arith) (omega arith),
       apart-height floor (a +ℤ pos v) c (omega (arith, depth-add a v)) (omega arith),
+    )
+
+-- a time and how far it is below a later one give that one
+pub apart-sum : {a b : ℤ} → a ≤ℤ b → a +ℤ pos (apart a b) ≡ b
+apart-sum {a} {b} h =
+    let floor = depth a + depth b in
+    let same : height floor (a +ℤ pos (apart a b)) ≡ height floor b =
+    omega (arith, height-le floor h, height-add floor a (apart a b) (omega arith), apart-height floor a b (omega arith) (omega arith)) in
+    ≤ℤ-antisym (le-height floor (a +ℤ pos (apart a b)) b (omega arith) (omega (arith, same)))
+    (le-height floor b (a +ℤ pos (apart a b)) (omega (arith, depth-add a (apart a b))) (omega (arith, same)))
+
+-- over a time between them
+pub apart-add : {a b c : ℤ} → a ≤ℤ b → b ≤ℤ c → apart a b + apart b c ≡ apart a c
+apart-add {a} {b} {c} h k =
+    let floor = depth a + depth b + depth c in
+    omega (
+      arith,
+      height-le floor h,
+      height-le floor k,
+      apart-height floor a b (omega arith) (omega arith),
+      apart-height floor b c (omega arith) (omega arith),
+      apart-height floor a c (omega arith) (omega arith),
     )

@@ -17,22 +17,26 @@ pub weightless-settles : (w : Waits) → Closed w → ((i : ℕ) → i < w .size
 weightless-settles w closed low weightless =
     sound-settles w closed (sound-of w (λ i. limit) low (λ i i<. ≤ℤ-refl limit) (λ i j v i< wait. rw (weightless i j v i< wait) (≤ℤ-refl limit)))
 
--- trace B: two processors, each of which receives from the other before it sends; with these latencies of its four records
-abbrev ring : List ℕ → Waits
-ring latencies = record {
+-- trace B: two processors, each of which receives from the other before it sends; with these gaps and latencies of its four records
+abbrev ring : (gaps latencies : List ℕ) → Waits
+ring gaps latencies = record {
   size = 4;
   original = timeAt (pos 1 ∷ pos 2 ∷ pos 3 ∷ pos 4 ∷ []);
   before = λ i. getD (none ∷ some 0 ∷ none ∷ some 2 ∷ []) i none;
-  gap = λ i. 0;
+  gap = λ i. getD gaps i 0;
   send = λ i. getD (some 3 ∷ none ∷ some 1 ∷ none ∷ []) i none;
   latency = λ i. getD latencies i 0;
 }
 
-pub ring-settles : settle (ring []) ≡ settled 3 (pos 4 ∷ pos 4 ∷ pos 4 ∷ pos 4 ∷ [])
+pub ring-settles : settle (ring [] []) ≡ settled 3 (pos 4 ∷ pos 4 ∷ pos 4 ∷ pos 4 ∷ [])
 unfolding settle settledFrom same withinLimit next
 ring-settles = refl
 
 -- a weight anywhere in the ring leaves no times
-pub ring-impossible : settle (ring (0 ∷ 0 ∷ 1 ∷ 0 ∷ [])) ≡ impossible
+pub ring-impossible : settle (ring [] (0 ∷ 0 ∷ 1 ∷ 0 ∷ [])) ≡ impossible
 unfolding settle settledFrom same withinLimit next
 ring-impossible = refl
+
+pub gap-impossible : settle (ring (0 ∷ 1 ∷ 0 ∷ 0 ∷ []) []) ≡ impossible
+unfolding settle settledFrom same withinLimit next
+gap-impossible = refl

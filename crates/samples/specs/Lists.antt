@@ -1,5 +1,5 @@
--- What the seventh change request and its reading say of the messages and of the chain of a record: each a call from the bytes of a trace,
--- with its answer and the whole list afterwards.
+-- What the seventh change request and its reading say of the messages and of the chain of a record, and the ninth of the gaps in it: each a
+-- call from the bytes of a trace, with its answer and the whole list afterwards.
 use Prim.Native.Nat.{ℕ}
 use Prim.Native.String.{String}
 use mathlib.Core.Path.{_≡_}
@@ -10,7 +10,7 @@ use Rattle.paper.specs.Filling.{Query, Filling, query, filling}
 use Rattle.paper.specs.Messages.{messages}
 use Rattle.paper.specs.Chain.{chain}
 use Rattle.paper.specs.declared.Pair.{Pair}
-use Rattle.samples.specs.Samples.{traceA, traceB, joined, everywhere, entry0}
+use Rattle.samples.specs.Samples.{traceA, traceB, spaced, joined, everywhere, entry0}
 
 -- ---- the traces
 
@@ -42,7 +42,13 @@ own = "-5 5 0.000000 0 0 0\n" ∷ "-3 -21 0.000010 0 0 3 2 8 1 0\n" ∷ "-4 -52 
 -- ---- the calls
 
 abbrev asking : ℕ → List String → List ℕ → Query
-asking choice trace table = query (joined trace) table (record { choice = choice; levels = 0; picl = pos 0; user = pos 0; trace = pos 0; statistics = 0 })
+asking choice trace table =
+    query (joined trace) table (record { choice = choice; levels = 0; picl = pos 0; user = pos 0; trace = pos 0; statistics = 0; share = 0 })
+
+-- at this share
+abbrev keeping : ℕ → List String → List ℕ → Query
+keeping share trace table =
+    query (joined trace) table (record { choice = 1; levels = 0; picl = pos 0; user = pos 0; trace = pos 0; statistics = 0; share = share })
 
 -- a list of so many 7s, which none of these traces has for a place
 abbrev lent : ℕ → List ℕ
@@ -115,6 +121,12 @@ chained =
     ∷ record { asks = asking 1 [] (everywhere 0); place = 0; list = lent 1; comes = refused 22 0 0 (lent 1) }
     -- "A refused trace keeps its refusal"
     ∷ record { asks = asking 3 traceA (everywhere 5); place = 9; list = []; comes = refused 1 0 0 [] }
+    -- "the chain of request 7 .. read[s] this new condition": the last step is a gap, 17 is 10 with 5 for the send and 2 for the gap
+    ∷ record { asks = keeping 1000 traceA (everywhere 5); place = 3; list = lent 3; comes = filled 3 (3 ∷ 2 ∷ 0 ∷ []) }
+    -- 23 is 20 with nothing for the send, none of the gap of 1 and 3 of the gap of 7
+    ∷ record { asks = keeping 500 spaced (everywhere 0); place = 3; list = lent 4; comes = filled 4 (3 ∷ 2 ∷ 1 ∷ 0 ∷ []) }
+    ∷ record { asks = keeping 1000 traceB (everywhere 0); place = 2; list = lent 4; comes = refused 15 0 0 (lent 4) }
+    ∷ record { asks = keeping 1001 traceA (everywhere 5); place = 9; list = []; comes = refused 2 0 0 [] }
     ∷ []
 
 -- each comes to what it should

@@ -1,7 +1,7 @@
 -- Document 01, "Sample traces": those marked P, each a call from the trace's bytes with its whole outcome and the program's whole
 -- report of it; and in the same way what the first change request and its reading say of the tracing levels, the second of messages
 -- that are posted and finish later, the fourth of receives that take fewer bytes than were sent, the fifth of columns, the sixth of a
--- merged trace, and the eighth of statistics records.
+-- merged trace, the eighth of statistics records, and the ninth of the gaps that are kept.
 use Prim.Native.Nat.{ℕ, _+_, _*_}
 use Prim.Native.String.{String}
 use mathlib.Core.Path.{_≡_}
@@ -141,6 +141,20 @@ received exit times = "-3 -21 0.000010 0 0 3 2 8 1 1\n" ∷ "-3 -52 0.000008 1 0
 abbrev threeFaults : List String
 threeFaults = "-4 -52 0.000009 1 0 3 2 8 1 0\n" ∷ "-102 -1 0.000009 1 0 1 \"%d%d\" -52 1\n" ∷ []
 
+-- a receive that moves from 1 to 20, and behind it gaps of 1, 7 and 1
+abbrev pub spaced : List String
+spaced =
+    "-3 -21 0.000020 0 0 3 2 8 1 1\n"
+    ∷ "-4 -52 0.000001 1 0 3 2 8 1 0\n"
+    ∷ "-3 5 0.000002 1 0 0\n"
+    ∷ "-3 5 0.000009 1 0 0\n"
+    ∷ "-3 5 0.000010 1 0 0\n"
+    ∷ []
+
+-- the same receive, and behind it this between it and a record 8 microseconds later
+abbrev between : List String → List String
+between more = take 2 spaced ++ (more ++ ("-3 5 0.000009 1 0 0\n" ∷ []))
+
 abbrev pub joined : List String → List ℕ
 joined [] = []
 joined (l ∷ ls) = bytesOf l ++ joined ls
@@ -158,18 +172,25 @@ calling trace latencies asked = record { trace = trace; latencies = latencies; a
 -- "0 for off, as for document 01's samples"
 abbrev given : List ℕ → List ℕ → ℕ → Inputs
 given trace latencies choice =
-    calling trace latencies (record { choice = choice; levels = 0; picl = pos 0; user = pos 0; trace = pos 0; statistics = 0 })
+    calling trace latencies (record { choice = choice; levels = 0; picl = pos 0; user = pos 0; trace = pos 0; statistics = 0; share = 0 })
 
 -- a call that expects 1 1 1, with this for its fourth number
 abbrev expecting : ℕ → List String → Inputs
 expecting levels trace =
-    calling (joined trace) (everywhere 0) (record { choice = 1; levels = levels; picl = pos 1; user = pos 1; trace = pos 1; statistics = 0 })
+    calling (joined trace) (everywhere 0)
+    (record { choice = 1; levels = levels; picl = pos 1; user = pos 1; trace = pos 1; statistics = 0; share = 0 })
 
 -- a call with this for the number that switches the comparison of statistics
 abbrev comparing : ℕ → List String → Inputs
 comparing statistics trace =
     calling (joined trace) (everywhere 0)
-    (record { choice = 1; levels = 0; picl = pos 0; user = pos 0; trace = pos 0; statistics = statistics })
+    (record { choice = 1; levels = 0; picl = pos 0; user = pos 0; trace = pos 0; statistics = statistics; share = 0 })
+
+-- a call that keeps so many thousandths of each gap
+abbrev keeping : ℕ → List String → List ℕ → Inputs
+keeping share trace latencies =
+    calling (joined trace) latencies
+    (record { choice = 1; levels = 0; picl = pos 0; user = pos 0; trace = pos 0; statistics = 0; share = share })
 
 -- ---- the outcomes
 
@@ -489,7 +510,7 @@ samples =
     -- "at original times": under latencies of 5 the receive moves to 15. "moved times needn't agree" where that is read again
     ∷ record {
       call = calling (joined (received "-4 -52 0.000009 1 0 3 2 8 1 0\n" "-101 -1 0.000009 1 0 1 \"%d%lf\" -52 0.000001\n")) (everywhere 5)
-          (record { choice = 1; levels = 0; picl = pos 0; user = pos 0; trace = pos 0; statistics = 1 });
+          (record { choice = 1; levels = 0; picl = pos 0; user = pos 0; trace = pos 0; statistics = 1; share = 0 });
       comes = answer 2 1 2 (pos 10 ∷ pos 8 ∷ pos 15 ∷ pos 15 ∷ []);
       shows = report "verdict corrected\n" "listed 4\n" "matched 1\n" "rounds 2\n";
     }
@@ -501,7 +522,7 @@ samples =
     -- "after the line checks and 17, before 13"
     ∷ record {
       call = calling (joined threeFaults) (everywhere 0)
-          (record { choice = 1; levels = 1; picl = pos 1; user = pos 1; trace = pos 1; statistics = 1 });
+          (record { choice = 1; levels = 1; picl = pos 1; user = pos 1; trace = pos 1; statistics = 1; share = 0 });
       comes = refusal 17 2 0;
       shows = "refused 17 line 2 column 0\n" ∷ [];
     }
@@ -536,6 +557,58 @@ samples =
     ∷ badLine "-102 -1 0.000000 0 0 1 \"%d%d\" 5\n" 5 32 "refused 5 line 1 column 32\n"
     ∷ badLine "-102 -1 0.000000 0 0 1 \"%d%d\" 5 1 6\n" 5 35 "refused 5 line 1 column 35\n"
     ∷ badLine "-101 -1 0.000000 0 0 1 \"%d%lf\" 5 -1\n" 5 34 "refused 5 line 1 column 34\n"
+    -- request 9: "Share 0 is today's rule", as P1; at 500 one microsecond of each gap of 2 is kept, at 1,000 both
+    ∷ record {
+      call = keeping 0 traceA (everywhere 5);
+      comes = answer 2 2 3 (pos 10 ∷ pos 12 ∷ pos 15 ∷ pos 15 ∷ pos 20 ∷ []);
+      shows = report "verdict corrected\n" "listed 5\n" "matched 2\n" "rounds 3\n";
+    }
+    ∷ record {
+      call = keeping 500 traceA (everywhere 5);
+      comes = answer 2 2 3 (pos 10 ∷ pos 12 ∷ pos 15 ∷ pos 16 ∷ pos 21 ∷ []);
+      shows = report "verdict corrected\n" "listed 5\n" "matched 2\n" "rounds 3\n";
+    }
+    ∷ record {
+      call = keeping 1000 traceA (everywhere 5);
+      comes = answer 2 2 3 (pos 10 ∷ pos 12 ∷ pos 15 ∷ pos 17 ∷ pos 22 ∷ []);
+      shows = report "verdict corrected\n" "listed 5\n" "matched 2\n" "rounds 3\n";
+    }
+    -- "that many thousandths of their original gap, rounded down", each by itself: of 1, 7 and 1 at 500 none, 3 and none, and not 4 of 9
+    ∷ record {
+      call = keeping 500 spaced (everywhere 0);
+      comes = answer 2 1 4 (pos 20 ∷ pos 20 ∷ pos 20 ∷ pos 23 ∷ pos 23 ∷ []);
+      shows = report "verdict corrected\n" "listed 5\n" "matched 1\n" "rounds 4\n";
+    }
+    -- "its predecessor": 4 of 8 are kept, and with a statistics record between 1 of 3 and 2 of 5
+    ∷ record {
+      call = keeping 500 (between []) (everywhere 0);
+      comes = answer 2 1 2 (pos 20 ∷ pos 20 ∷ pos 24 ∷ []);
+      shows = report "verdict corrected\n" "listed 3\n" "matched 1\n" "rounds 2\n";
+    }
+    ∷ record {
+      call = keeping 500 (between ("-102 -1 0.000004 1 0 0\n" ∷ [])) (everywhere 0);
+      comes = answer 2 1 3 (pos 20 ∷ pos 20 ∷ pos 21 ∷ pos 23 ∷ []);
+      shows = report "verdict corrected\n" "listed 4\n" "matched 1\n" "rounds 3\n";
+    }
+    -- "refusal 15 .. read[s] this new condition": trace B's ring weighs nothing at 999, where both its gaps of 1 are rounded down
+    ∷ record {
+      call = keeping 999 traceB (everywhere 0);
+      comes = answer 2 2 3 (pos 4 ∷ pos 4 ∷ pos 4 ∷ pos 4 ∷ []);
+      shows = report "verdict corrected\n" "listed 4\n" "matched 2\n" "rounds 3\n";
+    }
+    ∷ record { call = keeping 1000 traceB (everywhere 0); comes = refusal 15 0 0; shows = "refused 15 line 0 column 0\n" ∷ [] }
+    -- "A trace consistent at share 0 still is."
+    ∷ record {
+      call = keeping 1000 volumes (everywhere 0);
+      comes = answer 1 2 0 (pos 10 ∷ pos 11 ∷ pos 11 ∷ pos 12 ∷ pos 13 ∷ pos 13 ∷ []);
+      shows = report "verdict consistent\n" "listed 6\n" "matched 2\n" "rounds 0\n";
+    }
+    -- "A share above 1,000 is refusal 2", and so before 3
+    ∷ record {
+      call = keeping 1001 traceA (everywhere 1000001);
+      comes = refusal 2 0 0;
+      shows = "refused 2 line 0 column 0\n" ∷ [];
+    }
     ∷ []
 
 -- each comes to what it should, and is reported so

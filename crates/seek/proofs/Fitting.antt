@@ -11,14 +11,14 @@ use Rattle.reach.specs.declared.Reached.{Reached}
 use Rattle.reach.specs.Reach.{fits, ReachedBy}
 use Rattle.seek.specs.Sought.{Sought}
 
-all-fit : (n : ℕ) {space sends before latency times spare : ℕ} → space ≡ n → sends ≡ n → before ≡ n → latency ≡ n → times ≡ n → spare ≡ n
-    → fits n space (times ∷ sends ∷ before ∷ latency ∷ spare ∷ []) ≡ true
+all-fit : (n : ℕ) {space sends before gap latency times spare : ℕ} → space ≡ n → sends ≡ n → before ≡ n → gap ≡ n → latency ≡ n → times ≡ n → spare ≡ n
+    → fits n space (times ∷ sends ∷ before ∷ gap ∷ latency ∷ spare ∷ []) ≡ true
 unfolding fits allAre
-all-fit n c s b l t p = rw (c, s, b, l, t, p, eq-eqb n n refl)
+all-fit n c s b g l t p = rw (c, s, b, g, l, t, p, eq-eqb n n refl)
 
-pub sought : (g : Given) (space sends times : ℕ) {before latency spare : ℕ} (r : Reached) (store sends′ : List ℕ) (times′ : List ℤ)
-    → before ≡ most g → latency ≡ most g → spare ≡ most g
-    → ReachedBy (fits (most g) space (times ∷ sends ∷ before ∷ latency ∷ spare ∷ [])) g r store sends′ times′
+pub sought : (g : Given) (space sends times : ℕ) {before gap latency spare : ℕ} (r : Reached) (store sends′ : List ℕ) (times′ : List ℤ)
+    → before ≡ most g → gap ≡ most g → latency ≡ most g → spare ≡ most g
+    → ReachedBy (fits (most g) space (times ∷ sends ∷ before ∷ gap ∷ latency ∷ spare ∷ [])) g r store sends′ times′
     → Sought g space sends times r store sends′ times′
 unfolding Sought
-sought g space sends times r store sends′ times′ b l p by c s t = by .answers (all-fit (most g) c s b l t p)
+sought g space sends times r store sends′ times′ b k l p by c s t = by .answers (all-fit (most g) c s b k l t p)

@@ -10,10 +10,16 @@ ghost use Rattle.seek.specs.Sought.{Sought};
 use paper::Asked;
 use reach::Reached;
 
-// ---- A place and a time for each record that a call may list, each array made by a function of its own, so that no other proof meets
+// ---- A place, a gap and a time for each record that a call may list, each array made by a function of its own, so that no other proof meets
 // so many zeros.
 
 pub fn places() -> [u32; 2048]
+    ensures { λ r. ⌜ length r ≡ 2048 ⌝ }
+{
+    [0; 2048]
+}
+
+fn gaps() -> [u64; 2048]
     ensures { λ r. ⌜ length r ≡ 2048 ⌝ }
 {
     [0; 2048]
@@ -38,6 +44,7 @@ pub fn seek(
     ensures { λ r. ⌜ Sought (givenOf (now (trace .entry)) (now (latencies .entry)) asked lent) (capacity (now (store .entry))) (length (now (sends .entry))) (length (now (times .entry))) r (now (store .exit)) (now (sends .exit)) (now (times .exit)) ⌝ }
 {
     let mut before = places();
+    let mut gap = gaps();
     let mut latency = places();
     let mut spare = blanks();
     reach::reach(
@@ -48,6 +55,7 @@ pub fn seek(
         store,
         sends,
         &mut before,
+        &mut gap,
         &mut latency,
         times,
         &mut spare,

@@ -21,6 +21,7 @@ use Rattle.answer.specs.declared.Counts.{Counts}
 use Rattle.reach.specs.declared.Reached.{Reached}
 use Rattle.reach.specs.declared.Reached.the-variants.{Times, Refused, Misfit}
 use Rattle.reach.specs.Reach.{Held, reaches}
+use Rattle.reach.proofs.Means.{found-means}
 use Rattle.listing.proofs.Senders.{same-messages}
 use Rattle.report.specs.Put.{Put}
 use Rattle.report.specs.Said.{saidShown}
@@ -76,13 +77,13 @@ module _ (shows : Shows) (asked : Asked) (trace latencies line : List ℕ) (reac
       unfolding shownOf pairsIn
       mail d =
           let there = rw long at ((rw (sub-zero n) at d) .there fit) in
-          rw (← same-messages (f .reading .entries) latencies, ← held .places, ← held .new, ← held .entries) there
+          rw (← same-messages (f .reading .entries) (asked .share) latencies, ← held .places, ← held .new, ← held .entries) there
 
       chained : {end : ℕ} {after : List ℕ}
-          → Put room 0 (onLine q line (entriesIn store (length (take (n - 0) new))) (take (n - 0) new)) end after
+          → (asked .share ≤ 1000 → Put room 0 (onLine q line (entriesIn store (length (take (n - 0) new))) (take (n - 0) new)) end after)
           → Put room 0 (shownOf Reasons q line f) end after
-      unfolding shownOf
-      chained put = let there = rw (sub-zero n, long, held .entries, held .new) at put in there
+      unfolding shownOf judged
+      chained put = let there = rw (sub-zero n, long, held .entries, held .new) at (put (found-means (judged q) f is .share)) in there
 
     pub messages-told : shows ≡ Messages → {end : ℕ} {after : List ℕ}
         → DeliveredInto store (take (n - 0) sends) (take (n - 0) new) room end after
@@ -91,7 +92,7 @@ module _ (shows : Shows) (asked : Asked) (trace latencies line : List ℕ) (reac
     messages-told s d = λ says. let (f, is, held) = rw e at says in rw (is, s) (mail f is held d)
 
     pub chain-told : shows ≡ Reasons → {end : ℕ} {after : List ℕ}
-        → Put room 0 (onLine q line (entriesIn store (length (take (n - 0) new))) (take (n - 0) new)) end after
+        → (asked .share ≤ 1000 → Put room 0 (onLine q line (entriesIn store (length (take (n - 0) new))) (take (n - 0) new)) end after)
         → ConcludedBy shows asked trace latencies line reached store sends new room end after
     unfolding ConcludedBy reaches onTrace onReached
     chain-told s put = λ says. let (f, is, held) = rw e at says in rw (is, s) (chained f is held put)

@@ -2,10 +2,10 @@
 use Prim.Native.Nat.{ℕ, _-_, _/_, _≤_}
 use native.Mathlib.Nat.{sub-zero}
 use native.Mathlib.Omega.{arith}
-use mathlib.Core.Path.{_≡_, refl, sym, ap, _∙_}
+use mathlib.Core.Path.{_≡_, refl, sym, _∙_}
 use mathlib.Core.Bool.{Bool, true, false, cond}
 use mathlib.Core.List.{List, _++_}
-use lib.ListN.{length, take, drop, length-append, length-drop, length-replicate}
+use lib.ListN.{length, take, length-append, length-drop, length-replicate}
 use lib.Seq.{take-at, length-take-le}
 use lib.IntN.{ℤ}
 use lib.Dec.{ltb}
@@ -22,7 +22,8 @@ use Rattle.paper.specs.declared.Filled.{Filled}
 use Rattle.store.specs.Layout.{entriesIn, tooMany}
 use Rattle.store.proofs.Listed.{length-listed}
 use Rattle.store.proofs.Laws.{length-entries}
-use Rattle.waits.specs.Tables.{beforeAt, latencyAt, beforesOf, latenciesOf, beforesInto}
+use Rattle.waits.specs.Tables.{beforeAt, latencyAt, beforesOf, gapsOf, gapsBy, latenciesOf, beforesInto, gapsInto}
+use Rattle.waits.proofs.Gaps.{gaps-share, gaps-are}
 use Rattle.report.specs.Put.{Put}
 use Rattle.report.specs.Said.{saidShown}
 use Rattle.report.specs.declared.Said.the-variants as Said
@@ -43,6 +44,15 @@ module _ (store : List ℕ) {n : ℕ} (part post : List ℕ) (long : length part
       let size : length (beforesOf es) ≡ n = length-listed (length es) (beforeAt es) ∙ length-entries store n in
       rw r (take-at (beforesOf es) post n size)
 
+  pub gaps-first : (share : ℕ) (before : List ℕ) → rest ≡ gapsInto share store before part → share ≤ 1000
+      → take n (rest ++ post) ≡ gapsBy share (entriesIn store n) before
+  unfolding gapsBy
+  gaps-first share before e low =
+      let es = entriesIn store n in
+      let r : rest ≡ gapsBy share es before = e ∙ sym (gaps-share store before part low) ∙ rw long in
+      let size : length (gapsBy share es before) ≡ n = length-listed (length es) _ ∙ length-entries store n in
+      rw r (take-at (gapsBy share es before) post n size)
+
   pub latencies-first : (latencies : List ℕ) → rest ≡ latenciesOf latencies (entriesIn store (length part))
       → take n (rest ++ post) ≡ latenciesOf latencies (entriesIn store n)
   unfolding latenciesOf
@@ -54,29 +64,32 @@ module _ (store : List ℕ) {n : ℕ} (part post : List ℕ) (long : length part
 
 -- ---- the text
 
-module _ (latencies : List ℕ) (es : List Entry) (times : List ℤ) (chain : List ℕ) where
-  pub chain-told : (n : ℕ) (before latency : List ℕ) {room after : List ℕ} {end : ℕ}
+module _ (share : ℕ) (latencies : List ℕ) (es : List Entry) (times : List ℤ) (chain : List ℕ) where
+  pub chain-told : (n : ℕ) (before gap latency : List ℕ) {room after : List ℕ} {end : ℕ}
       → take n before ≡ beforesOf es
+      → (share ≤ 1000 → take n gap ≡ gapsBy share es (take (n - 0) before))
       → take n latency ≡ latenciesOf latencies es
       → length chain ≤ 2048
       → Wide room
-      → ReasonsInto (reasonsOf es times (take (n - 0) before) (take (n - 0) latency) chain) (length chain) room end after
-      → Put room 0 (chainShown latencies es times chain) end after
+      → ReasonsInto (reasonsOf es times (take (n - 0) before) (take (n - 0) gap) (take (n - 0) latency) chain) (length chain) room end after
+      → share ≤ 1000
+      → Put room 0 (chainShown share latencies es times chain) end after
   unfolding chainShown Wide
-  chain-told n before latency {room = room} b l few wide into =
+  chain-told n before gap latency {room = room} b g l few wide into low =
       let h : length chain ≤ length room / 256 = omega arith in
-      let q = rw (sub-zero n, b, l) at (into .there h) in q
+      let k : take n gap ≡ gapsOf share es = rw (sub-zero n, b) at (g low) ∙ gaps-are share es in
+      let q = rw (sub-zero n, b, k, l) at (into .there h) in q
 
   module _ (f : Filled) {room after : List ℕ} {end : ℕ} where
     pub refusal-told : (f .number ≡ 0 → ⊥) → {answer : Answer} → answer ≡ answerOf f → Put room 0 (saidShown (Said.Answered answer)) end after
-        → Put room 0 (filledShown f latencies es times chain) end after
+        → share ≤ 1000 → Put room 0 (filledShown f share latencies es times chain) end after
     unfolding filledShown
-    refusal-told h a p = rw (ne-eqb (f .number) 0 h, ← a) p
+    refusal-told h a p low = rw (ne-eqb (f .number) 0 h, ← a) p
 
-    pub filling-told : f .number ≡ 0 → Put room 0 (chainShown latencies es times chain) end after
-        → Put room 0 (filledShown f latencies es times chain) end after
+    pub filling-told : f .number ≡ 0 → (share ≤ 1000 → Put room 0 (chainShown share latencies es times chain) end after)
+        → share ≤ 1000 → Put room 0 (filledShown f share latencies es times chain) end after
     unfolding filledShown
-    filling-told h p = rw (eq-eqb (f .number) 0 h) p
+    filling-told h p low = rw (eq-eqb (f .number) 0 h) (p low)
 
 -- ---- what is filled is in the list, which stays as long as it was
 
@@ -132,9 +145,11 @@ module _ (q : Query) (line : List ℕ) (es : List Entry) (times : List ℤ) {pla
   pub few-taken : length (take (filled .filled) list′) ≤ 2048
   few-taken = omega (arith, taken, kept .within, two-thousand)
 
-  pub line-told : {room after : List ℕ} {end : ℕ} → Put room 0 (filledShown filled (q .latencies) es times (take (filled .filled) list′)) end after
+  pub line-told : {room after : List ℕ} {end : ℕ}
+      → (q .asked .share ≤ 1000 → Put room 0 (filledShown filled (q .asked .share) (q .latencies) es times (take (filled .filled) list′)) end after)
+      → q .asked .share ≤ 1000
       → Put room 0 (onLine q line es times) end after
   unfolding onLine onFilling
-  line-told p =
+  line-told p low =
       let e : chain q (placeOn line es) lentList ≡ record { answer = filled; list = list′ } = rw (← at, ← blank) (sym told) in
-      rw e p
+      rw e (p low)

@@ -8,7 +8,7 @@ use lib.Dec.{eqb}
 use Rattle.paper.specs.declared.Answer.{Answer}
 use Rattle.paper.specs.declared.Entry.{Entry}
 use Rattle.paper.specs.declared.Filled.{Filled}
-use Rattle.waits.specs.Tables.{beforesOf, latenciesOf}
+use Rattle.waits.specs.Tables.{beforesOf, gapsOf, latenciesOf}
 use Rattle.report.specs.Said.{saidShown}
 use Rattle.report.specs.declared.Said.the-variants as Said
 use Rattle.reasons.specs.Reasons.{reasonsOf}
@@ -33,8 +33,9 @@ answerOf f =
       written = 0;
     }
 
-unfoldable pub chainShown : (latencies : List ℕ) → List Entry → List ℤ → (chain : List ℕ) → List ℕ
-chainShown latencies es times chain = reasonsOf es times (beforesOf es) (latenciesOf latencies es) chain
+unfoldable pub chainShown : (share : ℕ) (latencies : List ℕ) → List Entry → List ℤ → (chain : List ℕ) → List ℕ
+chainShown share latencies es times chain = reasonsOf es times (beforesOf es) (gapsOf share es) (latenciesOf latencies es) chain
 
-unfoldable pub filledShown : Filled → (latencies : List ℕ) → List Entry → List ℤ → (chain : List ℕ) → List ℕ
-filledShown f latencies es times chain = cond (eqb (f .number) 0) (chainShown latencies es times chain) (saidShown (Said.Answered (answerOf f)))
+unfoldable pub filledShown : Filled → (share : ℕ) (latencies : List ℕ) → List Entry → List ℤ → (chain : List ℕ) → List ℕ
+filledShown f share latencies es times chain =
+    cond (eqb (f .number) 0) (chainShown share latencies es times chain) (saidShown (Said.Answered (answerOf f)))

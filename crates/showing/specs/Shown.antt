@@ -22,14 +22,14 @@ use Rattle.showing.specs.declared.Shows.the-variants.{Messages, Reasons}
 
 -- what the call that tells a chain comes to, of the record on a line
 unfoldable pub onFilling : Query → Filling ℕ → List Entry → List ℤ → List ℕ
-onFilling q f es times = filledShown (f .answer) (q .latencies) es times (take (f .answer .filled) (f .list))
+onFilling q f es times = filledShown (f .answer) (q .asked .share) (q .latencies) es times (take (f .answer .filled) (f .list))
 
 unfoldable pub onLine : Query → (line : List ℕ) → List Entry → List ℤ → List ℕ
 onLine q line es times = onFilling q (chain q (placeOn line es) lentList) es times
 
 unfoldable pub shownOf : Shows → Query → (line : List ℕ) → Found → List ℕ
 shownOf Messages q line f =
-    deliveriesOf (f .reading .entries) (timeAt (f .times)) (messagesOf (waitsOf (q .latencies) (f .reading .entries)))
+    deliveriesOf (f .reading .entries) (timeAt (f .times)) (messagesOf (waitsOf (q .asked .share) (q .latencies) (f .reading .entries)))
 shownOf Reasons q line f = onLine q line (f .reading .entries) (f .times)
 
 -- "A refused trace keeps its refusal"

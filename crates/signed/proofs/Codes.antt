@@ -5,6 +5,7 @@ use native.Mathlib.Omega.{arith}
 use native.Mathlib.Decide.{ℕ-discrete}
 use borrow.Author.Tests.{eq-eqb, ne-eqb}
 use lib.IntN.{ℤ, pos, negsuc, natAbs}
+use Rattle.paper.specs.Gaps.{apart}
 use Rattle.signed.specs.Codes.{codeOf, decoded}
 
 -- ---- back
@@ -27,6 +28,10 @@ code-back (pos n) =
 code-back (negsuc n) =
     let half : (2 * n + 1) / 2 ≡ n = omega arith in
     rw (← odd (2 * n + 1) (λ e. omega arith), half)
+
+-- so two numbers by their codes are as far apart as they are
+pub apart-coded : {a b : ℕ} (x y : ℤ) → a ≡ codeOf x → b ≡ codeOf y → apart (decoded a) (decoded b) ≡ apart x y
+apart-coded x y e d = rw (e, d, code-back x, code-back y)
 
 -- and a code from its number
 pub code-forth : (n : ℕ) → codeOf (decoded n) ≡ n

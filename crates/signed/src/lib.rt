@@ -1,7 +1,9 @@
 // Signed numbers tested and turned into plain ones, in functions so small that no other crate's proof meets a number's bits.
+ghost use Prim.Native.Nat.{_-_};
 ghost use mathlib.Core.Path.{_≡_};
 ghost use lib.Signed.{ltZ};
 ghost use Rattle.paper.specs.Tests.{eqZ};
+ghost use Rattle.paper.specs.Gaps.{apart};
 ghost use Rattle.signed.specs.Naturals.{sizeOf, naturalOf};
 ghost use Rattle.signed.specs.Codes.{codeOf, decoded};
 
@@ -65,4 +67,37 @@ pub fn from_code(n: u64) -> i64
         return half;
     }
     -1 - half
+}
+
+// a less b, 0 where that is more.
+fn less(a: u64, b: u64) -> u64
+    ensures { λ r. ⌜ r ≡ a - b ⌝ }
+{
+    if a <= b {
+        return 0;
+    }
+    a - b
+}
+
+// How far one code's number lies behind another's: even codes are of 0 and above, odd ones of the negative numbers.
+fn between(earlier: u64, later: u64) -> u64
+    ensures { λ r. ⌜ r ≡ apart (decoded earlier) (decoded later) ⌝ }
+{
+    if earlier % 2 == 0 {
+        if later % 2 == 0 {
+            return less(later / 2, earlier / 2);
+        }
+        return 0;
+    }
+    if later % 2 == 0 {
+        return later / 2 + (earlier / 2 + 1);
+    }
+    less(earlier / 2, later / 2)
+}
+
+// How far a number lies behind an earlier one, 0 where it does not. No difference of two numbers of 64 bits is too large for it.
+pub fn apart(earlier: i64, later: i64) -> u64
+    ensures { λ r. ⌜ r ≡ apart earlier later ⌝ }
+{
+    between(code(earlier), code(later))
 }

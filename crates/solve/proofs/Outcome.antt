@@ -6,12 +6,12 @@ use mathlib.Core.Bool.{Bool, true, false}
 use lib.IntN.{ℤ}
 use Rattle.paper.specs.Clock.{settled}
 use Rattle.paper.specs.declared.Entry.{Entry}
-use Rattle.solve.specs.Outcome.{solvedBy, SolvedInto}
+use Rattle.solve.specs.Outcome.{Keepable, solvedBy, SolvedInto}
 use Rattle.solve.specs.declared.Solved.{Solved}
 use Rattle.solve.specs.declared.Solved.the-variants.{Times, Refused, Impossible, Misfit}
 
-module _ (table : List ℕ) (es : List Entry) (a b : List ℕ) (s t : List ℤ) where
-  one-answer : (r q : Solved) → solvedBy table es r a s → solvedBy table es q b t → r ≡ q
+module _ (share : ℕ) (table : List ℕ) (es : List Entry) (a b : List ℕ) (s t : List ℤ) where
+  one-answer : (r q : Solved) → solvedBy share table es r a s → solvedBy share table es q b t → r ≡ q
   unfolding solvedBy
   one-answer (Times m u k) (Times n v l) x y =
       let e : settled k s ≡ settled l t = sym (x .settles) ∙ y .settles in
@@ -30,12 +30,12 @@ module _ (table : List ℕ) (es : List Entry) (a b : List ℕ) (s t : List ℤ) 
   one-answer (Refused f l) Misfit x y = absurd y
   one-answer Impossible Misfit x y = absurd y
 
-  pub one-held : (m u k : ℕ) → solvedBy table es (Times m u k) a s → solvedBy table es (Times m u k) b t → (a ≡ b) × (s ≡ t)
+  pub one-held : (m u k : ℕ) → solvedBy share table es (Times m u k) a s → solvedBy share table es (Times m u k) b t → (a ≡ b) × (s ≡ t)
   unfolding solvedBy
   one-held m u k x y =
       let e : settled k s ≡ settled k t = sym (x .settles) ∙ y .settles in
       (x .places ∙ sym (y .places), cc)
 
-  pub one-solution : (fits : Bool) (r q : Solved) → SolvedInto fits table es r a s → SolvedInto fits table es q b t → r ≡ q
-  one-solution true r q x y = one-answer r q (x .answers refl) (y .answers refl)
-  one-solution false r q x y = x .misfits refl ∙ sym (y .misfits refl)
+  pub one-solution : (fits : Bool) (r q : Solved) → Keepable share es → SolvedInto fits share table es r a s → SolvedInto fits share table es q b t → r ≡ q
+  one-solution true r q keep x y = one-answer r q (x .answers refl keep) (y .answers refl keep)
+  one-solution false r q keep x y = x .misfits refl ∙ sym (y .misfits refl)

@@ -4,7 +4,7 @@ ghost use mathlib.Core.Path.{_≡_};
 ghost use mathlib.Core.List.{[], _∷_};
 ghost use lib.ListN.{length};
 ghost use Rattle.store.specs.Layout.{capacity, entriesIn};
-ghost use Rattle.solve.specs.Outcome.{fitting, settledAs, Tables, settledBy, SolvedInto};
+ghost use Rattle.solve.specs.Outcome.{fitting, Keepable, keptPlaces, settledAs, Tables, settledBy, SolvedInto};
 use clock::Settled;
 use message::Matching;
 use paper::Fault;
@@ -16,7 +16,7 @@ pub enum Solved {
     Refused(Fault, Site),
     // no times exist
     Impossible,
-    // the slices are not of one length, or longer than the store
+    // the slices are not of one length, or longer than the store; or gaps are to be kept that no trace has
     Misfit,
 }
 
@@ -24,24 +24,35 @@ pub enum Solved {
 fn settle_with(
     store: &[u32],
     table: &[u32],
+    share: u32,
     sends: &[u32],
     before: &mut [u32],
+    gap: &mut [u64],
     latency: &mut [u32],
     times: &mut [i64],
     spare: &mut [i64],
 ) -> Settled
-    requires { ⌜ Tables (now store) (now sends) (now before) (now latency) (now times) (now spare) ⌝ }
-    ensures { λ r. ⌜ settledBy (now (table .entry)) (entriesIn (now (store .entry)) (length (now (times .entry)))) r (now (times .exit)) ⌝ }
+    requires { ⌜ Tables share (now store) (now sends) (now before) (now gap) (now latency) (now times) (now spare) ⌝ }
+    ensures { λ r. ⌜ (Keepable share (entriesIn (now (store .entry)) (length (now (times .entry)))) → settledBy share (now (table .entry)) (entriesIn (now (store .entry)) (length (now (times .entry)))) r (now (times .exit))) ⌝ }
 {
     waits::originals_into(store, times);
     waits::befores_into(store, before);
+    waits::gaps_into(store, share, before, gap);
     waits::latencies_into(store, table, latency);
-    clock::settle(before, sends, latency, times, spare)
+    clock::settle(before, gap, sends, latency, times, spare)
 }
 
 // Whether n records are not too many, are there, and have a place in every slice.
-fn fit(n: usize, room: usize, sends: usize, before: usize, latency: usize, spare: usize) -> bool
-    ensures { λ r. ⌜ r ≡ fitting n room (sends ∷ before ∷ latency ∷ spare ∷ []) ⌝ }
+fn fit(
+    n: usize,
+    room: usize,
+    sends: usize,
+    before: usize,
+    gap: usize,
+    latency: usize,
+    spare: usize,
+) -> bool
+    ensures { λ r. ⌜ r ≡ fitting n room (sends ∷ before ∷ gap ∷ latency ∷ spare ∷ []) ⌝ }
 {
     if store::TOO_MANY <= n {
         return false;
@@ -49,7 +60,17 @@ fn fit(n: usize, room: usize, sends: usize, before: usize, latency: usize, spare
     if room < n {
         return false;
     }
-    engine::all_are(n, sends, before, latency, spare)
+    engine::all_are(n, sends, before, gap, latency, spare)
+}
+
+// At a share of 0 no gap is kept and none lent: the engine has rounds without gaps.
+fn kept_places(share: u32, n: usize) -> usize
+    ensures { λ r. ⌜ r ≡ keptPlaces share n ⌝ }
+{
+    if share == 0 {
+        return 0;
+    }
+    n
 }
 
 // The engine's answer, where all messages match.
@@ -64,17 +85,19 @@ fn told(matched: usize, unreceived: usize, settled: Settled) -> Solved
 }
 
 // The times of the first records of the store, as many as times are lent. Of the lent slices `sends` and `times` come back with
-// something in them; `before`, `latency` and `spare` are room for the work.
+// something in them; `before`, `gap`, `latency` and `spare` are room for the work.
 pub fn solve(
     store: &[u32],
     table: &[u32],
+    share: u32,
     sends: &mut [u32],
     before: &mut [u32],
+    gap: &mut [u64],
     latency: &mut [u32],
     times: &mut [i64],
     spare: &mut [i64],
 ) -> Solved
-    ensures { λ r. ⌜ SolvedInto (fitting (length (now (times .entry))) (capacity (now (store .entry))) (length (now (sends .entry)) ∷ length (now (before .entry)) ∷ length (now (latency .entry)) ∷ length (now (spare .entry)) ∷ [])) (now (table .entry)) (entriesIn (now (store .entry)) (length (now (times .entry)))) r (now (sends .exit)) (now (times .exit)) ⌝ }
+    ensures { λ r. ⌜ SolvedInto (fitting (length (now (times .entry))) (capacity (now (store .entry))) (length (now (sends .entry)) ∷ length (now (before .entry)) ∷ length (now (gap .entry)) ∷ length (now (latency .entry)) ∷ length (now (spare .entry)) ∷ [])) share (now (table .entry)) (entriesIn (now (store .entry)) (length (now (times .entry)))) r (now (sends .exit)) (now (times .exit)) ⌝ }
 {
     let room = store::capacity(store);
     if !fit(
@@ -82,6 +105,7 @@ pub fn solve(
         room,
         sends.len(),
         before.len(),
+        gap.len(),
         latency.len(),
         spare.len(),
     ) {
@@ -91,7 +115,18 @@ pub fn solve(
         Matching::Refused(fault, site) => Solved::Refused(fault, site),
         Matching::Misfit => Solved::Misfit,
         Matching::Matched(matched, unreceived) => {
-            let settled = settle_with(store, table, sends, before, latency, times, spare);
+            let kept = kept_places(share, gap.len());
+            let settled = settle_with(
+                store,
+                table,
+                share,
+                sends,
+                before,
+                &mut gap[0..kept],
+                latency,
+                times,
+                spare,
+            );
             told(matched, unreceived, settled)
         }
     }

@@ -4,40 +4,26 @@ use mathlib.Core.Path.{_≡_}
 use mathlib.Core.Bool.{Bool, true, false}
 use mathlib.Core.List.{List}
 use borrow.Author.Tests.{lt-ltb, le-ltb}
-use lib.ListN.{length, getD}
+use lib.ListN.{length}
 use lib.IntN.{ℤ, pos, _+ℤ_}
-use lib.Signed.{ltZ, ltZ-no, _≤ℤ_}
-use Rattle.paper.specs.Clock.{limit, timeAt}
+use Rattle.paper.specs.Clock.{timeAt}
 use Rattle.paper.specs.Tests.{eqZ}
-use Rattle.steps.specs.Tables.{keeps, exactAt, endRank}
+use Rattle.steps.specs.Tables.{exactAt, endRank}
 
-pub not-high : (earlier : ℤ) {told : Bool} → told ≡ ltZ limit earlier → told ≡ false → earlier ≤ℤ limit
-not-high earlier e t = ltZ-no (rw (← e, t) tt)
-
-module _ (time earlier : ℤ) (wait : ℕ) where
-  pub keeps-high : {told : Bool} → told ≡ ltZ limit earlier → told ≡ true → false ≡ keeps time earlier wait
-  unfolding keeps
-  keeps-high e t = rw (← e, t)
-
-  pub keeps-low : {told : Bool} → told ≡ ltZ limit earlier → told ≡ false → {same : Bool} → same ≡ eqZ time (earlier +ℤ pos wait)
-      → same ≡ keeps time earlier wait
-  unfolding keeps
-  keeps-low e t s = rw (← e, t) s
-
-module _ (times : List ℤ) (waits : List ℕ) (none i j : ℕ) where
-  pub exact-out : length times ≤ j → none ≡ exactAt times waits none i j
+module _ (times : List ℤ) (wait none i j : ℕ) where
+  pub exact-out : length times ≤ j → none ≡ exactAt times wait none i j
   unfolding exactAt
   exact-out l = rw (le-ltb j (length times) l)
 
-  module _ (l : j < length times) {a b : ℤ} {v : ℕ} (time : a ≡ timeAt times i) (earlier : b ≡ timeAt times j) (wait : v ≡ getD waits i 0)
-      {told : Bool} (e : told ≡ keeps a b v) where
-    pub exact-kept : told ≡ true → j ≡ exactAt times waits none i j
+  module _ (l : j < length times) {a b : ℤ} (time : a ≡ timeAt times i) (earlier : b ≡ timeAt times j)
+      {told : Bool} (e : told ≡ eqZ a (b +ℤ pos wait)) where
+    pub exact-kept : told ≡ true → j ≡ exactAt times wait none i j
     unfolding exactAt
-    exact-kept t = rw (lt-ltb j (length times) l, ← time, ← earlier, ← wait, ← e, t)
+    exact-kept t = rw (lt-ltb j (length times) l, ← time, ← earlier, ← e, t)
 
-    pub exact-lost : told ≡ false → none ≡ exactAt times waits none i j
+    pub exact-lost : told ≡ false → none ≡ exactAt times wait none i j
     unfolding exactAt
-    exact-lost t = rw (lt-ltb j (length times) l, ← time, ← earlier, ← wait, ← e, t)
+    exact-lost t = rw (lt-ltb j (length times) l, ← time, ← earlier, ← e, t)
 
 module _ (time original : ℤ) (none : ℕ) {told : Bool} (e : told ≡ eqZ time original) where
   pub end-here : told ≡ true → 0 ≡ endRank time original none

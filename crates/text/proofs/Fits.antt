@@ -8,6 +8,7 @@ use mathlib.Core.Option.{Option, none, some}
 use native.Mathlib.Omega.{arith}
 use lib.ListN.{length, getD}
 use borrow.Author.Tests.{le-leb}
+use Rattle.paper.specs.Tests.{allUpTo}
 use Rattle.paper.specs.Answer.{lowLatencies}
 use Rattle.paper.specs.Reading.{Lines, done, unended, ended, linesOf}
 use Rattle.rule.specs.Rule.{covers, over, meaningOf}
@@ -53,7 +54,7 @@ places-long f (suc n) k = ap suc (places-long f n (k + 1))
 
 module _ (f : ℕ → Option ℕ) (low : (k : ℕ) → valueOf (f k) ≤ 1000000) where
   places-low : (n k : ℕ) → lowLatencies (places f n k) ≡ true
-  unfolding places lowLatencies
+  unfolding places lowLatencies allUpTo
   places-low zero k = refl
   places-low (suc n) k = rw (le-leb (valueOf (f k)) 1000000 (low k), places-low n (k + 1))
 

@@ -18,7 +18,7 @@ module _ (es : List Entry) where
   pub send-within : (i j : ℕ) → sendOf es i ≡ some j → j < length es
   send-within i j e = belongs es i j e .within
 
-  pub closed-waits : (table : List ℕ) → Closed (waitsOf table es)
+  pub closed-waits : (share : ℕ) (table : List ℕ) → Closed (waitsOf share table es)
   unfolding waitsOf
-  closed-waits table i j v i< (on-before e) = before-within _ i j i< e
-  closed-waits table i j v i< (on-send e) = send-within i j e
+  closed-waits share table i j v i< (on-before e) = before-within _ i j i< e
+  closed-waits share table i j v i< (on-send e) = send-within i j e

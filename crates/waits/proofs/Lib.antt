@@ -5,3 +5,4 @@ pub mod Last
 pub mod Outcomes
 pub mod Closed
 pub mod Same
+pub mod Gaps

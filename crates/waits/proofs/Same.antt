@@ -14,29 +14,30 @@ use Rattle.paper.specs.declared.Entry.{Entry}
 use Rattle.store.proofs.Listed.{length-listed, listed-at}
 use Rattle.matching.proofs.Belong.{processorAt}
 use Rattle.engine.specs.Promise.{place, waitsOf}
-use Rattle.waits.specs.Tables.{originalAt, latencyAt, originalsOf, beforesOf, latenciesOf}
+use Rattle.waits.specs.Tables.{originalAt, gapAt, latencyAt, originalsOf, beforesOf, latenciesOf}
 use Rattle.rounds.specs.Compare.{First}
 use Rattle.rounds.proofs.Agree.{settle-agrees}
 use Rattle.waits.proofs.Closed.{before-within, send-within}
 
--- what the engine is given for a trace's records: three tables of this crate, and of each entry the place of its send
-pub record Given (table : List ℕ) (es : List Entry) (originals : List ℤ) (before send latency : List ℕ) : Type 0 where
+-- what the engine is given for a trace's records: four tables of this crate, where that of the gaps may be short, and of each entry the place of its send
+pub record Given (share : ℕ) (table : List ℕ) (es : List Entry) (originals : List ℤ) (before gap send latency : List ℕ) : Type 0 where
   pub are-originals : originals ≡ originalsOf es
   pub are-befores : before ≡ beforesOf es
+  pub are-gaps : (i : ℕ) → i < length es → getD gap i 0 ≡ gapAt share es i
   pub are-sends : send ≡ listed (length es) (λ i. Option·getD (sendOf es i) (length es))
   pub are-latencies : latency ≡ latenciesOf table es
 
 -- places that were written down are read again
 module _ (n : ℕ) where
-  place-back : (o : Option ℕ) → ((j : ℕ) → o ≡ some j → j < n) → place n (Option·getD o n) ≡ o
+  pub place-back : (o : Option ℕ) → ((j : ℕ) → o ≡ some j → j < n) → place n (Option·getD o n) ≡ o
   place-back none within = rw (le-ltb n n (omega arith))
   place-back (some j) within = rw (lt-ltb j n (within j refl))
 
-  places-back : (f : ℕ → Option ℕ) (i : ℕ) → i < n → ((j : ℕ) → f i ≡ some j → j < n)
+  pub places-back : (f : ℕ → Option ℕ) (i : ℕ) → i < n → ((j : ℕ) → f i ≡ some j → j < n)
       → place n (getD (listed n (λ k. Option·getD (f k) n)) i 0) ≡ f i
   places-back f i i< within = rw (listed-at n (λ k. Option·getD (f k) n) i 0 i<) (place-back (f i) within)
 
-module _ (table : List ℕ) (es : List Entry) where
+module _ (share : ℕ) (table : List ℕ) (es : List Entry) where
   size : length (originalsOf es) ≡ length es
   unfolding originalsOf
   size = length-listed (length es) (originalAt es)
@@ -45,8 +46,8 @@ module _ (table : List ℕ) (es : List Entry) where
   lastAt i = lastOn es (processorAt es i) i
 
   -- the tables stand for the waits that the paper tells of
-  pub tables-agree : {originals : List ℤ} {before send latency : List ℕ} → Given table es originals before send latency
-      → First (waitsOf originals before send latency) (paper.waitsOf table es)
+  pub tables-agree : {originals : List ℤ} {before gap send latency : List ℕ} → Given share table es originals before gap send latency
+      → First (waitsOf originals before gap send latency) (paper.waitsOf share table es)
   unfolding waitsOf originalsOf beforesOf latenciesOf paper.waitsOf lastAt
   tables-agree g =
       let n = length es in
@@ -56,13 +57,13 @@ module _ (table : List ℕ) (es : List Entry) where
         size = omega (arith, size);
         original = λ i l. listed-at n (originalAt es) i (pos 0) (inside i l);
         before = λ i l. rw size (places-back n lastAt i (inside i l) (λ j. before-within es (processorAt es i) i j (inside i l)));
-        gap = λ i l. refl;
+        gap = λ i l. g .are-gaps i (inside i l);
         send = λ i l. rw size (places-back n (sendOf es) i (inside i l) (send-within es i));
         latency = λ i l. listed-at n (latencyAt table es) i 0 (inside i l);
       })
 
   -- and so the engine's answer is the paper's
-  pub same-settled : {originals : List ℤ} {before send latency : List ℕ} → Given table es originals before send latency
-      → settle (waitsOf originals before send latency) ≡ settle (paper.waitsOf table es)
+  pub same-settled : {originals : List ℤ} {before gap send latency : List ℕ} → Given share table es originals before gap send latency
+      → settle (waitsOf originals before gap send latency) ≡ settle (paper.waitsOf share table es)
   unfolding waitsOf paper.waitsOf
   same-settled g = settle-agrees (tables-agree g) (rw (g .are-originals) size)

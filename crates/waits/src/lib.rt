@@ -1,9 +1,13 @@
 // The tables that the engine of the clock condition takes, from the records' store and the latency table. As many records are
 // looked at as the lent slice has places; specs/Tables.antt says what it holds afterwards.
+ghost use Prim.Native.Nat.{_*_, _/_, _≤_, _<_};
 ghost use mathlib.Core.Path.{_≡_};
 ghost use lib.ListN.{length, getD, replicate};
+ghost use Rattle.paper.specs.Gaps.{gapOf};
+ghost use Rattle.paper.specs.Matching.{gapFrom};
 ghost use Rattle.store.specs.Layout.{entryFrom, entriesIn};
-ghost use Rattle.waits.specs.Tables.{latencyOf, originalsOf, beforesInto, latenciesOf};
+ghost use Rattle.engine.specs.Promise.{place};
+ghost use Rattle.waits.specs.Tables.{latencyOf, originalsOf, beforesInto, gapsBy, gapsInto, latenciesOf};
 use paper::Role;
 
 // ---- one record
@@ -31,6 +35,36 @@ fn latency_at(store: &[u32], table: &[u32], i: usize) -> u32
             number_at(table, 64 * sender + receiver)
         }
     }
+}
+
+// So many thousandths of n, rounded down: of its thousands and of the rest, so that no product is too large.
+fn thousandths(share: u32, n: u64) -> u64
+    requires { ⌜ share ≤ 1000 ⌝ }
+    ensures { λ r. ⌜ r ≡ share * n / 1000 ⌝ }
+{
+    let share = share as u64;
+    share * (n / 1000) + share * (n % 1000) / 1000
+}
+
+// "at least that many thousandths of their original gap, rounded down"
+fn gap_of(share: u32, before: i64, own: i64) -> u64
+    ensures { λ r. ⌜ (share ≤ 1000 → r ≡ gapOf share before own) ⌝ }
+{
+    if 1000 < share {
+        return 0;
+    }
+    thousandths(share, signed::apart(before, own))
+}
+
+// The gap that record `i` of n keeps from the one at `j`, where there is one.
+pub fn gap_at(store: &[u32], share: u32, n: usize, i: usize, j: u32) -> u64
+    ensures { λ r. ⌜ (share ≤ 1000 → i < n → r ≡ gapFrom share (entriesIn (now (store .entry)) n) i (place n j)) ⌝ }
+{
+    let at = j as usize;
+    if n <= at {
+        return 0;
+    }
+    gap_of(share, store::time_at(store, at), store::time_at(store, i))
 }
 
 // ---- all of them
@@ -70,6 +104,27 @@ pub fn befores_into(store: &[u32], out: &mut [u32])
         out[i] = last[p];
         last[p] = i as u32;
         i += 1;
+    }
+}
+
+fn keep_share(store: &[u32], share: u32, before: &[u32], out: &mut [u64])
+    requires { ⌜ share ≤ 1000 ⌝ }
+    ensures { λ r. ⌜ now (out .exit) ≡ gapsBy share (entriesIn (now (store .entry)) (length (now (out .entry)))) (now (before .entry)) ⌝ }
+{
+    let n = out.len();
+    let mut i: usize = 0;
+    while i < out.len() {
+        out[i] = gap_at(store, share, n, i, number_at(before, i));
+        i += 1;
+    }
+}
+
+// Of each record the gap that it keeps from the one before it, whose place is in `before`. Where the share is above 1,000, nothing is touched.
+pub fn gaps_into(store: &[u32], share: u32, before: &[u32], out: &mut [u64])
+    ensures { λ r. ⌜ now (out .exit) ≡ gapsInto share (now (store .entry)) (now (before .entry)) (now (out .entry)) ⌝ }
+{
+    if share <= 1000 {
+        keep_share(store, share, before, out);
     }
 }
 

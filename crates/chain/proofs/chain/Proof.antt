@@ -1,4 +1,5 @@
 -- `chain::chain` meets its contract. Here the arrays' lengths are the paper's limit of records.
+use mathlib.Core.Path.{refl}
 use borrow.Author.Needs.{needs}
 use Rattle.paper.specs.Answer.{most}
 use Rattle.paper.specs.Filling.{query, judged, mostLent}
@@ -56,7 +57,7 @@ returns c =
     let seek = c .before .before .before .before .before .before .before .before .before .before .before in
     let arrays = seek .before .before .before .before in
     let says = seek .seek .ensures (arrays .before .before .empty .ensures) (arrays .before .places .ensures) (arrays .blanks .ensures) in
-    c .before .before .before .conclude .ensures .gives _ _ says
+    c .before .before .before .conclude .ensures .gives _ _ refl says
 
 pub chain-spec : {M : Type 1} → statement M
 chain-spec =

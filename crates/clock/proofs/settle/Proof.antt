@@ -30,7 +30,7 @@ same-length-2 : tie.Need-same-length-2
 same-length-2 c = search needs
 
 returns : tie.Need-returns
-returns c = settled-rounds _ _ _ _ _ (c .before .before .before .before .before .run-rounds .ensures) _ (c .before .run .given .1)
+returns c = settled-rounds _ _ _ _ _ _ (c .before .before .before .before .before .run-rounds .ensures) _ (c .before .run .given .1)
 
 same-length-3 : tie.Need-same-length-3
 same-length-3 c = search needs
@@ -42,7 +42,7 @@ returns-2 : tie.Need-returns-2
 returns-2 c =
     let c₄ = c .before .before .before .before in
     let c₆ = c₄ .before .before in
-    settled-never _ _ _ _ _ (c₆ .before .before .before .before .run-rounds .ensures) (c₆ .enum-told .given .1) (omega arith) (omega arith) (c₄ .clear .ensures) (c .before .clear2 .ensures)
+    settled-never _ _ _ _ _ _ (c₆ .before .before .before .before .run-rounds .ensures) (c₆ .enum-told .given .1) (omega arith) (omega arith) (c₄ .clear .ensures) (c .before .clear2 .ensures)
 
 same-length-5 : tie.Need-same-length-5
 same-length-5 c = search needs
@@ -51,7 +51,7 @@ same-length-6 : tie.Need-same-length-6
 same-length-6 c = search needs
 
 returns-3 : tie.Need-returns-3
-returns-3 c = settled-misfit _ _ _ _ _ (c .before .before .before .before .run-rounds .ensures) (c .enum-told2 .given .1)
+returns-3 c = settled-misfit _ _ _ _ _ _ (c .before .before .before .before .run-rounds .ensures) (c .enum-told2 .given .1)
 
 pub settle-spec : {M : Type 1} → statement M
 settle-spec =

@@ -23,9 +23,9 @@ cast-arrived c = search needs
 add-arrived : tie.Need-add-arrived
 add-arrived c =
     let c₂ = c .before .before in
-    let fv : c₂ .args .weight < 2 ^ 63 = omega (arith, c₂ .fits .weight) in
+    let fv : c₂ .args .weight < 2 ^ 63 = omega (arith, c₂ .pre .1) in
     rw (toZ-ofZ (sfits-of (c .sent .given)), toZ-pos w64 fv)
-    (sfits-of (sum-fits _ _ (c .sent .given) (c₂ .pre _ (c .before .if1 .taken)) (c₂ .fits .weight .fits)))
+    (sfits-of (sum-fits _ _ (c .sent .given) (c₂ .pre .0 _ (c .before .if1 .taken)) (c₂ .pre .1)))
 
 later-requires : tie.Need-later-requires
 later-requires c κs = search needs
@@ -36,9 +36,9 @@ returns c =
     let c₃ = c₂ .before in
     let x = timeAt (c₃ .args .from .now) (c₃ .args .j) in
     let fx : SFits w64 x = sfits-of (c .before .sent .given) in
-    let fv : c₃ .args .weight < 2 ^ 63 = omega (arith, c₃ .fits .weight) in
+    let fv : c₃ .args .weight < 2 ^ 63 = omega (arith, c₃ .pre .1) in
     let fs : SFits w64 (x +ℤ pos (c₃ .args .weight)) =
-    sfits-of (sum-fits x _ (fx .sfits) (c₃ .pre _ (c₂ .if1 .taken)) (c₃ .fits .weight .fits)) in
+    sfits-of (sum-fits x _ (fx .sfits) (c₃ .pre .0 _ (c₂ .if1 .taken)) (c₃ .pre .1)) in
     rw (toZ-ofZ (sfits-of (c .later .ok)), place-at (c₂ .if1 .taken))
     (simp (toZ-ofZ, fx, fs, toZ-pos w64 fv, c₃ .fits .a) at (c .later .ensures))
 

@@ -30,11 +30,23 @@ returns-5 : tie.Need-returns-5
 unfolding allAre
 returns-5 c =
     rw (
-      eq-eqb _ _ (c .before .before .before .if1 .left),
-      eq-eqb _ _ (c .before .before .if2 .left),
-      eq-eqb _ _ (c .before .if3 .left),
-      eq-eqb _ _ (c .if4 .left),
+      eq-eqb _ _ (c .before .before .before .before .if1 .left),
+      eq-eqb _ _ (c .before .before .before .if2 .left),
+      eq-eqb _ _ (c .before .before .if3 .left),
+      eq-eqb _ _ (c .before .if4 .left),
+      ne-eqb _ _ (c .if5 .taken),
+    )
+
+returns-6 : tie.Need-returns-6
+unfolding allAre
+returns-6 c =
+    rw (
+      eq-eqb _ _ (c .before .before .before .before .if1 .left),
+      eq-eqb _ _ (c .before .before .before .if2 .left),
+      eq-eqb _ _ (c .before .before .if3 .left),
+      eq-eqb _ _ (c .before .if4 .left),
+      eq-eqb _ _ (c .if5 .left),
     )
 
 pub all-are-spec : {M : Type 1} → statement M
-all-are-spec = tie.close (tie.spec returns returns-2 returns-3 returns-4 returns-5)
+all-are-spec = tie.close (tie.spec returns returns-2 returns-3 returns-4 returns-5 returns-6)

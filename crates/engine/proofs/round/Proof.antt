@@ -18,11 +18,11 @@ use Rattle.engine.proofs.round.Statement.{statement}
 use Rattle.engine.proofs.round.Tie as tie
 
 abbrev Inv-loop : tie.InvT-loop
-Inv-loop before send latency from to₀ moved₀ i₀ to moved i =
-    (i ≤ length from) × (length to ≡ length from) × (moved ≤ i) × Turning (following before send latency) from to (eqb moved 0) i
+Inv-loop before gap send latency from to₀ moved₀ i₀ to moved i =
+    (i ≤ length from) × (length to ≡ length from) × (moved ≤ i) × Turning (following before gap send latency) from to (eqb moved 0) i
 
 abbrev μ-loop : tie.MeasureT-loop
-μ-loop before send latency from to₀ moved₀ i₀ to moved i = length from - i
+μ-loop before gap send latency from to₀ moved₀ i₀ to moved i = length from - i
 
 loop-holds : tie.Need-loop-holds Inv-loop μ-loop
 loop-holds c = (omega arith, omega arith, omega arith, turn-none _ _ _)
@@ -68,7 +68,7 @@ loop-again c =
     let at = c₂ .before .before .loop in
     let time = c₂ .next-at in
     let fits : SFits w64 (time .result) = sfits-of (time .ok) in
-    let low = c₂ .before .before .before .before .before .before .pre .0 _ (c₂ .before .loop-test .taken) in
+    let low = c₂ .before .before .before .before .before .before .before .pre .0 _ (c₂ .before .loop-test .taken) in
     let l : at .i < length (at .to) = omega arith in (
       omega arith,
       simp length-set (omega arith),

@@ -9,16 +9,17 @@ use Rattle.engine.specs.Promise.{waitsOf}
 use Rattle.engine.specs.Inner.{front}
 use Rattle.engine.proofs.Going.{Going}
 use Rattle.engine.proofs.Stepping.{step-over, step-same, step-on, step-late, start-low, start-high}
+use Rattle.engine.proofs.Lengths.{resized}
 use Rattle.engine.proofs.rounds.Statement.{statement}
 use Rattle.engine.proofs.rounds.Tie as tie
 
 abbrev Inv-loop : tie.InvT-loop
-Inv-loop before send latency times₀ spare₀ first₀ k₀ times spare first k =
+Inv-loop before gap send latency times₀ spare₀ first₀ k₀ times spare first k =
     (k ≤ length times₀) × (length times ≡ length times₀) × (length spare ≡ length times₀)
-    × Going (waitsOf times₀ before send latency) k (front first times spare)
+    × Going (waitsOf times₀ before gap send latency) k (front first times spare)
 
 abbrev μ-loop : tie.MeasureT-loop
-μ-loop before send latency times₀ spare₀ first₀ k₀ times spare first k = length times₀ - k
+μ-loop before gap send latency times₀ spare₀ first₀ k₀ times spare first k = length times₀ - k
 
 all-low-requires : tie.Need-all-low-requires Inv-loop μ-loop
 all-low-requires c κs = search needs
@@ -27,13 +28,15 @@ same-length : tie.Need-same-length Inv-loop μ-loop
 same-length c = search needs
 
 returns : tie.Need-returns Inv-loop μ-loop
-returns c = start-high _ _ _ _ (rw (not-true (c .before .all-low .result) (c .if1 .taken)) at (c .before .all-low .ensures)) _ _
+returns c = start-high _ _ _ _ _ (rw (not-true (c .before .all-low .result) (c .if1 .taken)) at (c .before .all-low .ensures)) _ _
 
 loop-holds : tie.Need-loop-holds Inv-loop μ-loop
-loop-holds c = (omega arith, refl, omega arith, start-low _ _ _ _ (rw (not-false (c .before .all-low .result) (c .if1 .left)) at (c .before .all-low .ensures)))
+loop-holds c = (omega arith, refl, omega arith, start-low _ _ _ _ _ (rw (not-false (c .before .all-low .result) (c .if1 .left)) at (c .before .all-low .ensures)))
 
 step-requires : tie.Need-step-requires Inv-loop μ-loop
-step-requires c κs = (c .before .before .loop .inv .3 .low, search needs)
+step-requires c κs =
+    let at = c .before .before in
+    (at .loop .inv .3 .low, resized (at .before .before .before .before .before .before .before .before .pre) (at .loop .inv .1) (at .loop .inv .2))
 
 enum-told : tie.Need-enum-told Inv-loop μ-loop
 enum-told c = search needs
@@ -47,7 +50,7 @@ same-length-3 c = omega arith
 returns-2 : tie.Need-returns-2 Inv-loop μ-loop
 returns-2 c =
     let at = c .before .before .before .before in
-    step-over _ _ _ _ (at .before .before .before .loop .inv .3) (at .step .ensures) (c .enum-told .given .1)
+    step-over _ _ _ _ _ (at .before .before .before .loop .inv .3) (at .step .ensures) (c .enum-told .given .1)
 
 enum-told-2 : tie.Need-enum-told-2 Inv-loop μ-loop
 enum-told-2 c = search needs
@@ -61,7 +64,7 @@ same-length-5 c = omega arith
 returns-3 : tie.Need-returns-3 Inv-loop μ-loop
 returns-3 c =
     let at = c .before .before .before .before in
-    step-same _ _ _ _ (at .before .before .before .loop .inv .3) (at .step .ensures) (c .enum-told2 .given .1)
+    step-same _ _ _ _ _ (at .before .before .before .loop .inv .3) (at .step .ensures) (c .enum-told2 .given .1)
 
 enum-told-3 : tie.Need-enum-told-3 Inv-loop μ-loop
 enum-told-3 c = search needs
@@ -78,7 +81,7 @@ same-length-7 c = omega arith
 returns-4 : tie.Need-returns-4 Inv-loop μ-loop
 returns-4 c =
     let at = c .before .before .before .before .before in
-    step-late _ _ _ _ (at .before .before .before .loop .inv .3) (at .step .ensures) (c .before .enum-told3 .given .1) (omega arith)
+    step-late _ _ _ _ _ (at .before .before .before .loop .inv .3) (at .step .ensures) (c .before .enum-told3 .given .1) (omega arith)
 
 loop-less : tie.Need-loop-less Inv-loop μ-loop
 loop-less c = omega arith
@@ -86,7 +89,7 @@ loop-less c = omega arith
 loop-again : tie.Need-loop-again Inv-loop μ-loop
 loop-again c =
     let at = c .before .before .before .before .before in
-    let next = step-on _ _ _ _ (at .before .before .before .loop .inv .3) (at .step .ensures) (c .before .enum-told3 .given .1) in
+    let next = step-on _ _ _ _ _ (at .before .before .before .loop .inv .3) (at .step .ensures) (c .before .enum-told3 .given .1) in
     (omega arith, omega arith, omega arith, next)
 
 pub rounds-spec : {M : Type 1} → statement M

@@ -1,11 +1,12 @@
 -- A round one way or the other: the slice that it starts from is only read.
 use mathlib.Core.Path.{refl}
 use borrow.Author.Needs.{needs}
+use Rattle.engine.proofs.Lengths.{resized}
 use Rattle.engine.proofs.step.Statement.{statement}
 use Rattle.engine.proofs.step.Tie as tie
 
 round-requires : tie.Need-round-requires
-round-requires c κs = (rw (c .before .before .if1 .taken) at (c .before .before .before .before .before .before .pre .0), search needs)
+round-requires c κs = (rw (c .before .before .if1 .taken) at (c .before .before .before .before .before .before .before .pre .0), search needs)
 
 same-length : tie.Need-same-length
 same-length c = search needs
@@ -17,7 +18,9 @@ returns : tie.Need-returns
 returns c = rw (c .before .before .before .before .if1 .taken) (record { kept = refl; turned = c .before .round .ensures })
 
 round-requires-2 : tie.Need-round-requires-2
-round-requires-2 c κs = (rw (c .before .before .if1 .left) at (c .before .before .before .before .before .before .pre .0), search needs)
+round-requires-2 c κs =
+    let pre = c .before .before .before .before .before .before .before .pre in
+    (rw (c .before .before .if1 .left) at (pre .0), resized (pre .1) (pre .1 .spares) refl)
 
 same-length-3 : tie.Need-same-length-3
 same-length-3 c = search needs

@@ -13,17 +13,17 @@ enum-known-said c = search needs
 say-requires : tie.Need-say-requires
 say-requires c κs = search needs
 
-enum-known-choice : tie.Need-enum-known-choice
-enum-known-choice c = search needs
+enum-known-asked : tie.Need-enum-known-asked
+enum-known-asked c = search needs
 
 of-names-requires : tie.Need-of-names-requires
 of-names-requires c κs = search needs
 
 returns : tie.Need-returns
-returns c = ended _ _ _ _ (c .before .before .before .before .before .begun .ensures) (c .before .before .before .said .given .1) (c .say .ensures)
+returns c = ended _ _ _ _ _ (c .before .before .before .before .before .begun .ensures) (c .before .before .before .said .given .1) (c .say .ensures)
 
 returns-2 : tie.Need-returns-2
-returns-2 c = judges _ _ _ _ (c .before .before .before .before .before .begun .ensures) (c .before .before .before .choice .given .1) (c .of-names .ensures)
+returns-2 c = judges _ _ _ _ _ (c .before .before .before .before .before .begun .ensures) (c .before .before .before .asked .given .1) (c .of-names .ensures)
 
 pub performed-spec : {M : Type 1} → statement M
 performed-spec =
@@ -32,7 +32,7 @@ performed-spec =
     begun-requires
     enum-known-said
     say-requires
-    enum-known-choice
+    enum-known-asked
     of-names-requires
     returns
     returns-2)

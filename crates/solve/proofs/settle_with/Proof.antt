@@ -10,6 +10,9 @@ originals-into-requires c κs = search needs
 befores-into-requires : tie.Need-befores-into-requires
 befores-into-requires c κs = search needs
 
+gaps-into-requires : tie.Need-gaps-into-requires
+gaps-into-requires c κs = search needs
+
 latencies-into-requires : tie.Need-latencies-into-requires
 latencies-into-requires c κs = search needs
 
@@ -28,14 +31,18 @@ same-length-3 c = search needs
 same-length-4 : tie.Need-same-length-4
 same-length-4 c = search needs
 
+same-length-5 : tie.Need-same-length-5
+same-length-5 c = search needs
+
 returns : tie.Need-returns
-returns c =
-    let c₂ = c .before .before in
-    let c₉ = c₂ .before .before .before .before .before .before .before in
-    let c₁₃ = c₉ .before .before .before .before in
-    let c₁₆ = c₁₃ .before .before .before in
-    let pre = c₁₆ .before .before .before .before .before .before .before .pre in
-    engine-answers _ _ _ _ pre (c₁₆ .originals-into .ensures) (c₁₃ .befores-into .ensures) (c₉ .latencies-into .ensures) _ _ _ (c₂ .settle .ensures)
+returns c = λ keep.
+    let c₁₀ = c .before .before .before .before .before .before .before .before .before .before in
+    let c₁₄ = c₁₀ .before .before .before .before in
+    let c₁₉ = c₁₄ .before .before .before .before .before in
+    let c₂₂ = c₁₉ .before .before .before in
+    let pre = c₂₂ .before .before .before .before .before .before .before .before .pre in
+    engine-answers _ _ _ _ _ pre (c₂₂ .originals-into .ensures) (c₁₉ .befores-into .ensures) (c₁₄ .gaps-into .ensures) (c₁₀ .latencies-into .ensures)
+    keep _ _ _ (c .before .before .settle .ensures)
 
 pub settle-with-spec : {M : Type 1} → statement M
 settle-with-spec =
@@ -43,10 +50,12 @@ settle-with-spec =
     (tie.spec
     originals-into-requires
     befores-into-requires
+    gaps-into-requires
     latencies-into-requires
     settle-requires
     same-length
     same-length-2
     same-length-3
     same-length-4
+    same-length-5
     returns)

@@ -18,31 +18,24 @@ mul-kept c = search needs
 shared-slice-copy-out-kept : tie.Need-shared-slice-copy-out-kept
 shared-slice-copy-out-kept c = search needs
 
-number-at-requires : tie.Need-number-at-requires
-number-at-requires c κs = search needs
-
 kept-requires : tie.Need-kept-requires
 kept-requires c κs = search needs
 
 returns-2 : tie.Need-returns-2
 returns-2 c =
     let c₃ = c .before .before .before in
-    let c₄ = c₃ .before in
-    exact-kept _ _ _ _ _ (c₄ .before .if1 .left)
-    (toZ-ofZ (sfits-of (c₄ .time-at .ok)) ∙ c₄ .time-at .ensures)
-    (toZ-ofZ (sfits-of (c₃ .kept-arg .given)))
-    (c .before .before .number-at .ensures)
+    exact-kept _ _ _ _ _ (c₃ .before .if1 .left)
+    (toZ-ofZ (sfits-of (c₃ .time-at .ok)) ∙ c₃ .time-at .ensures)
+    (toZ-ofZ (sfits-of (c .before .before .kept-arg .given)))
     (c .before .kept .ensures)
     (c .if2 .taken)
 
 returns-3 : tie.Need-returns-3
 returns-3 c =
     let c₃ = c .before .before .before in
-    let c₄ = c₃ .before in
-    exact-lost _ _ _ _ _ (c₄ .before .if1 .left)
-    (toZ-ofZ (sfits-of (c₄ .time-at .ok)) ∙ c₄ .time-at .ensures)
-    (toZ-ofZ (sfits-of (c₃ .kept-arg .given)))
-    (c .before .before .number-at .ensures)
+    exact-lost _ _ _ _ _ (c₃ .before .if1 .left)
+    (toZ-ofZ (sfits-of (c₃ .time-at .ok)) ∙ c₃ .time-at .ensures)
+    (toZ-ofZ (sfits-of (c .before .before .kept-arg .given)))
     (c .before .kept .ensures)
     (c .if2 .left)
 
@@ -54,7 +47,6 @@ exact-at-spec =
     time-at-requires
     mul-kept
     shared-slice-copy-out-kept
-    number-at-requires
     kept-requires
     returns-2
     returns-3)

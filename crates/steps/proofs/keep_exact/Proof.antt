@@ -12,13 +12,16 @@ use Rattle.steps.proofs.keep_exact.Tie as tie
 
 abbrev Inv-loop : tie.InvT-loop
 Inv-loop times waits none table₀ i₀ table i =
-    Filling 0 (λ k. exactAt times waits none k (getD table₀ k 0)) (length table₀) table i × Left table₀ table i
+    Filling 0 (λ k. exactAt times (getD waits k 0) none k (getD table₀ k 0)) (length table₀) table i × Left table₀ table i
 
 abbrev μ-loop : tie.MeasureT-loop
 μ-loop times waits none table₀ i₀ table i = length table₀ - i
 
 loop-holds : tie.Need-loop-holds Inv-loop μ-loop
 loop-holds c = (fill-none _ _ _, left-all _)
+
+wait-at-requires : tie.Need-wait-at-requires Inv-loop μ-loop
+wait-at-requires c κs = search needs
 
 mul-exact-at : tie.Need-mul-exact-at Inv-loop μ-loop
 mul-exact-at c = search needs
@@ -43,9 +46,11 @@ loop-less c = search needs
 
 loop-again : tie.Need-loop-again Inv-loop μ-loop
 loop-again c =
-    let at = c .before .before .before .loop in
+    let c₂ = c .before .before in
+    let at = c₂ .before .before .loop in
+    let exact = rw (c₂ .wait-at .ensures) at (c .exact-at .ensures) in
     let same = ap (exactAt _ _ _ _) (at .inv .1 .rest (at .i) (omega arith)) in
-    (fill-more _ _ (at .inv .0) _ (c .before .before .loop-test .taken) (c .exact-at .ensures ∙ same), left-more (at .inv .1) _)
+    (fill-more _ _ (at .inv .0) _ (c₂ .before .loop-test .taken) (exact ∙ same), left-more (at .inv .1) _)
 
 same-length : tie.Need-same-length Inv-loop μ-loop
 same-length c = search needs
@@ -61,6 +66,7 @@ keep-exact-spec =
     Inv-loop
     μ-loop
     loop-holds
+    wait-at-requires
     mul-exact-at
     slice-read-exact-at
     exact-at-requires

@@ -15,7 +15,7 @@ unfilled-requires c κs = search needs
 
 returns : tie.Need-returns
 returns c =
-    concluded-outside _ _ _ _ _ _ (c .before .before .before .before .reached .given .1) (c .before .before .if1 .taken) (c .before .nowhere .ensures)
+    concluded-outside _ _ _ _ _ _ _ (c .before .before .before .before .reached .given .1) (c .before .before .if1 .taken) (c .before .nowhere .ensures)
     (c .unfilled .ensures)
 
 sub-explain : tie.Need-sub-explain
@@ -71,15 +71,15 @@ returns-2 c =
     let c₁₀ = c .before .before .before .before .before .before .before .before .before .before in
     let is = c₁₀ .reached .given .1 in
     let enough = within (c₁₀ .before .before .before .before .before .before .pre) is in
-    concluded-inside _ _ _ _ _ _ is (c .before .before .before .before .before .before .before .before .if1 .left)
+    concluded-inside _ _ _ _ _ _ _ is (c .before .before .before .before .before .before .before .before .if1 .left)
     (c .before .before .before .before .explain .ensures)
     (enough .with-times)
 
 returns-3 : tie.Need-returns-3
-returns-3 c = concluded-refused _ _ _ _ _ _ (c .before .before .reached2 .given .1) (c .unfilled2 .ensures)
+returns-3 c = concluded-refused _ _ _ _ _ _ _ (c .before .before .reached2 .given .1) (c .unfilled2 .ensures)
 
 returns-4 : tie.Need-returns-4
-returns-4 c = concluded-never _ _ _ _ _ _ (c .before .before .enum-told .given .1)
+returns-4 c = concluded-never _ _ _ _ _ _ _ (c .before .before .enum-told .given .1)
 
 pub conclude-spec : {M : Type 1} → statement M
 conclude-spec =

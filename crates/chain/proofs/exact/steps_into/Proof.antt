@@ -7,17 +7,11 @@ use Rattle.chain.proofs.exact.steps_into.Tie as tie
 cast-none : tie.Need-cast-none
 cast-none c = search needs
 
-no-gap-requires : tie.Need-no-gap-requires
-no-gap-requires c κs = search needs
-
 originals-into-requires : tie.Need-originals-into-requires
 originals-into-requires c κs = search needs
 
 latencies-into-requires : tie.Need-latencies-into-requires
 latencies-into-requires c κs = search needs
-
-slice-aggregate-processor-steps : tie.Need-slice-aggregate-processor-steps
-slice-aggregate-processor-steps c = search needs
 
 processor-steps-requires : tie.Need-processor-steps-requires
 processor-steps-requires c κs = search needs
@@ -47,22 +41,19 @@ returns : tie.Need-returns
 returns c =
     let c₇ = c .before .before .before .before .before .before .before in
     let c₁₂ = c₇ .before .before .before .before .before in
-    let c₁₇ = c₁₂ .before .before .before .before .before in
-    let c₂₀ = c₁₇ .before .before .before in
-    let c₂₂ = c₂₀ .before .before in
-    let start = c₂₂ .before .before .before .before .before .before .before in
-    stepped _ _ _ _ (start .pre) (c₂₀ .originals-into .ensures) (c₁₇ .latencies-into .ensures) (c₂₂ .no-gap .ensures)
-    (c₁₂ .processor-steps .ensures) (c₇ .keep-exact .ensures) (c .before .before .end-ranks .ensures)
+    let c₁₆ = c₁₂ .before .before .before .before in
+    let c₁₉ = c₁₆ .before .before .before in
+    let start = c₁₉ .before .before .before .before .before .before .before .before in
+    stepped _ _ _ _ _ (start .pre) (c₁₉ .originals-into .ensures) (c₁₆ .latencies-into .ensures) (c₁₂ .processor-steps .ensures)
+    (c₇ .keep-exact .ensures) (c .before .before .end-ranks .ensures)
 
 pub steps-into-spec : {M : Type 1} → statement M
 steps-into-spec =
     tie.close
     (tie.spec
     cast-none
-    no-gap-requires
     originals-into-requires
     latencies-into-requires
-    slice-aggregate-processor-steps
     processor-steps-requires
     keep-exact-requires
     end-ranks-requires

@@ -19,7 +19,7 @@ unfolding askedOf
 returns c = rw (c .enum-told .given .1)
 
 returns-2 : tie.Need-returns-2
-returns-2 c = asked-levels _ _ (c .before .levels .given .1) (search needs) (search needs) (search needs)
+returns-2 c = asked-levels _ _ _ (c .before .levels .given .1) (search needs) (search needs) (search needs)
 
 returns-3 : tie.Need-returns-3
 unfolding askedOf

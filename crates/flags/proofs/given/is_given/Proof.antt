@@ -23,6 +23,9 @@ enum-told-5 c = search needs
 enum-told-6 : tie.Need-enum-told-6
 enum-told-6 c = search needs
 
+enum-told-7 : tie.Need-enum-told-7
+enum-told-7 c = search needs
+
 returns : tie.Need-returns
 unfolding spanOf filled
 returns c = rw (c .before .enum-told .given .1) refl
@@ -47,6 +50,10 @@ returns-6 : tie.Need-returns-6
 unfolding spanOf filled
 returns-6 c = rw (c .before .enum-told6 .given .1) refl
 
+returns-7 : tie.Need-returns-7
+unfolding spanOf filled
+returns-7 c = rw (c .before .enum-told7 .given .1) refl
+
 pub is-given-spec : {M : Type 1} → statement M
 is-given-spec =
     tie.close
@@ -57,9 +64,11 @@ is-given-spec =
     enum-told-4
     enum-told-5
     enum-told-6
+    enum-told-7
     returns
     returns-2
     returns-3
     returns-4
     returns-5
-    returns-6)
+    returns-6
+    returns-7)

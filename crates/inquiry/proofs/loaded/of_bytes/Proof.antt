@@ -25,9 +25,6 @@ say-requires c κs = search needs
 enum-told : tie.Need-enum-told
 enum-told c = search needs
 
-choice-alone-requires : tie.Need-choice-alone-requires
-choice-alone-requires c κs = search needs
-
 slice-aggregate-show : tie.Need-slice-aggregate-show
 slice-aggregate-show c = search needs
 
@@ -43,11 +40,10 @@ returns c =
 
 returns-2 : tie.Need-returns-2
 returns-2 c =
-    let ready = c .before .before .before .before .before .before in
+    let ready = c .before .before .before .before .before in
     let decode = ready .before .before in
     judged _ _ _ _ _ _ _ (decode .before .before .no-latencies .ensures) (decode .decode .ensures) (ready .ready .ensures)
-    (c .before .before .before .before .enum-told .given .1) (c .before .before .before .choice-alone .ensures)
-    (c .show .ensures)
+    (c .before .before .before .enum-told .given .1) (c .show .ensures)
 
 pub of-bytes-spec : {M : Type 1} → statement M
 of-bytes-spec =
@@ -60,7 +56,6 @@ of-bytes-spec =
     enum-known-said
     say-requires
     enum-told
-    choice-alone-requires
     slice-aggregate-show
     show-requires
     returns

@@ -26,8 +26,17 @@ put-word-requires-2 c κs = search needs
 enum-known-cause : tie.Need-enum-known-cause
 enum-known-cause c = search needs
 
-put-latency-requires : tie.Need-put-latency-requires
-put-latency-requires c κs = search needs
+put-kept-requires : tie.Need-put-kept-requires
+put-kept-requires c κs = search needs
+
+enum-known-cause-2 : tie.Need-enum-known-cause-2
+enum-known-cause-2 c = search needs
+
+slice-aggregate-put-numbered : tie.Need-slice-aggregate-put-numbered
+slice-aggregate-put-numbered c = search needs
+
+put-numbered-requires : tie.Need-put-numbered-requires
+put-numbered-requires c κs = search needs
 
 same-length : tie.Need-same-length
 same-length c = search needs
@@ -48,7 +57,14 @@ same-length-3 c = search needs
 
 returns-3 : tie.Need-returns-3
 unfolding causeShown
-returns-3 c = let c₂ = c .before .before in rw (c₂ .before .before .before .cause .given .1) (c₂ .put-latency .ensures)
+returns-3 c = let c₂ = c .before .before in rw (c₂ .before .before .before .cause .given .1) (c₂ .put-kept .ensures)
+
+same-length-4 : tie.Need-same-length-4
+same-length-4 c = search needs
+
+returns-4 : tie.Need-returns-4
+unfolding causeShown bytesOf
+returns-4 c = let c₂ = c .before .before in rw (c₂ .before .before .before .before .cause2 .given .1) (c₂ .put-numbered .ensures)
 
 pub put-cause-spec : {M : Type 1} → statement M
 put-cause-spec =
@@ -61,10 +77,15 @@ put-cause-spec =
     slice-aggregate-put-word-2
     put-word-requires-2
     enum-known-cause
-    put-latency-requires
+    put-kept-requires
+    enum-known-cause-2
+    slice-aggregate-put-numbered
+    put-numbered-requires
     same-length
     returns
     same-length-2
     returns-2
     same-length-3
-    returns-3)
+    returns-3
+    same-length-4
+    returns-4)

@@ -3,7 +3,7 @@ use borrow.Author.Needs.{needs}
 use Rattle.paper.specs.Text.{bytesOf}
 use Rattle.named.specs.Values.{written}
 use Rattle.named.specs.Parts.{foundIn}
-use Rattle.named.proofs.Forms.{is-choice, is-trace, is-table, is-levels, is-statistics, is-out, is-nobody's}
+use Rattle.named.proofs.Forms.{is-choice, is-trace, is-table, is-levels, is-statistics, is-share, is-out, is-nobody's}
 use Rattle.named.proofs.names.name_of.Statement.{statement}
 use Rattle.named.proofs.names.name_of.Tie as tie
 
@@ -85,7 +85,13 @@ returns-6 c =
     let c₉ = c₆ .before .before .before in
     let c₁₂ = c₉ .before .before .before in
     let c₁₅ = c₁₂ .before .before .before in
-    is-out _ (c₁₅ .before .is-same .ensures) (c₁₅ .if1 .left) (c₁₂ .before .is-same2 .ensures) (c₁₂ .if2 .left) (c₉ .before .is-same3 .ensures) (c₉ .if3 .left) (c₆ .before .is-same4 .ensures) (c₆ .if4 .left) (c₃ .before .is-same5 .ensures) (c₃ .if5 .left) (c .before .is-same6 .ensures) (c .if6 .taken)
+    is-share _ (c₁₅ .before .is-same .ensures) (c₁₅ .if1 .left) (c₁₂ .before .is-same2 .ensures) (c₁₂ .if2 .left) (c₉ .before .is-same3 .ensures) (c₉ .if3 .left) (c₆ .before .is-same4 .ensures) (c₆ .if4 .left) (c₃ .before .is-same5 .ensures) (c₃ .if5 .left) (c .before .is-same6 .ensures) (c .if6 .taken)
+
+slice-aggregate-is-same-7 : tie.Need-slice-aggregate-is-same-7
+slice-aggregate-is-same-7 c = search needs
+
+is-same-requires-7 : tie.Need-is-same-requires-7
+is-same-requires-7 c κs = search needs
 
 returns-7 : tie.Need-returns-7
 unfolding foundIn written bytesOf
@@ -95,7 +101,19 @@ returns-7 c =
     let c₉ = c₆ .before .before .before in
     let c₁₂ = c₉ .before .before .before in
     let c₁₅ = c₁₂ .before .before .before in
-    is-nobody's _ (c₁₅ .before .is-same .ensures) (c₁₅ .if1 .left) (c₁₂ .before .is-same2 .ensures) (c₁₂ .if2 .left) (c₉ .before .is-same3 .ensures) (c₉ .if3 .left) (c₆ .before .is-same4 .ensures) (c₆ .if4 .left) (c₃ .before .is-same5 .ensures) (c₃ .if5 .left) (c .before .is-same6 .ensures) (c .if6 .left)
+    let c₁₈ = c₁₅ .before .before .before in
+    is-out _ (c₁₈ .before .is-same .ensures) (c₁₈ .if1 .left) (c₁₅ .before .is-same2 .ensures) (c₁₅ .if2 .left) (c₁₂ .before .is-same3 .ensures) (c₁₂ .if3 .left) (c₉ .before .is-same4 .ensures) (c₉ .if4 .left) (c₆ .before .is-same5 .ensures) (c₆ .if5 .left) (c₃ .before .is-same6 .ensures) (c₃ .if6 .left) (c .before .is-same7 .ensures) (c .if7 .taken)
+
+returns-8 : tie.Need-returns-8
+unfolding foundIn written bytesOf
+returns-8 c =
+    let c₃ = c .before .before .before in
+    let c₆ = c₃ .before .before .before in
+    let c₉ = c₆ .before .before .before in
+    let c₁₂ = c₉ .before .before .before in
+    let c₁₅ = c₁₂ .before .before .before in
+    let c₁₈ = c₁₅ .before .before .before in
+    is-nobody's _ (c₁₈ .before .is-same .ensures) (c₁₈ .if1 .left) (c₁₅ .before .is-same2 .ensures) (c₁₅ .if2 .left) (c₁₂ .before .is-same3 .ensures) (c₁₂ .if3 .left) (c₉ .before .is-same4 .ensures) (c₉ .if4 .left) (c₆ .before .is-same5 .ensures) (c₆ .if5 .left) (c₃ .before .is-same6 .ensures) (c₃ .if6 .left) (c .before .is-same7 .ensures) (c .if7 .left)
 
 pub name-of-spec : {M : Type 1} → statement M
 name-of-spec =
@@ -119,4 +137,7 @@ name-of-spec =
     slice-aggregate-is-same-6
     is-same-requires-6
     returns-6
-    returns-7)
+    slice-aggregate-is-same-7
+    is-same-requires-7
+    returns-7
+    returns-8)

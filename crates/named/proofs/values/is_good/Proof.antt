@@ -35,6 +35,12 @@ switch-of-requires c κs = search needs
 enum-told-6 : tie.Need-enum-told-6
 enum-told-6 c = search needs
 
+share-of-requires : tie.Need-share-of-requires
+share-of-requires c κs = search needs
+
+enum-told-7 : tie.Need-enum-told-7
+enum-told-7 c = search needs
+
 returns : tie.Need-returns
 unfolding goodFor
 returns c = rw (c .before .enum-told .given .1, ← c .choice-of .ensures)
@@ -57,7 +63,11 @@ returns-5 c = rw (c .before .enum-told5 .given .1, ← c .switch-of .ensures)
 
 returns-6 : tie.Need-returns-6
 unfolding goodFor
-returns-6 c = rw (c .enum-told6 .given .1)
+returns-6 c = rw (c .before .enum-told6 .given .1, ← c .share-of .ensures)
+
+returns-7 : tie.Need-returns-7
+unfolding goodFor
+returns-7 c = rw (c .enum-told7 .given .1)
 
 pub is-good-spec : {M : Type 1} → statement M
 is-good-spec =
@@ -73,9 +83,12 @@ is-good-spec =
     enum-told-5
     switch-of-requires
     enum-told-6
+    share-of-requires
+    enum-told-7
     returns
     returns-2
     returns-3
     returns-4
     returns-5
-    returns-6)
+    returns-6
+    returns-7)

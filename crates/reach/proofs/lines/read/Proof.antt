@@ -2,7 +2,7 @@
 use native.Mathlib.Omega.{arith}
 use borrow.Author.Needs.{needs}
 use Rattle.paper.specs.Answer.{longest}
-use Rattle.reach.proofs.Records.{ready, comparable, line-refused, lines-read}
+use Rattle.reach.proofs.Records.{ready, comparable, keepable, line-refused, lines-read}
 use Rattle.reach.proofs.lines.read.Statement.{statement}
 use Rattle.reach.proofs.lines.read.Tie as tie
 
@@ -14,7 +14,7 @@ abbrev read-of : tie.After-check-levels → tie.After-read-trace
 read-of c = c .before .before .before .before
 
 abbrev start-of : tie.After-read-trace → tie.Start
-start-of c = c .before .before .before .before .before .before .before .before
+start-of c = c .before .before .before .before .before .before .before .before .before
 
 read-trace-requires : tie.Need-read-trace-requires
 read-trace-requires c κs = search needs
@@ -26,7 +26,7 @@ check-statistics-requires : tie.Need-check-statistics-requires
 unfolding longest
 check-statistics-requires c κs =
     let read = read-of (c .before .before .before .before .before) in
-    comparable _ _ _ _ _ (read .read-trace .ensures) (omega (arith, start-of read .pre .0)) (start-of read .pre .1)
+    comparable _ _ _ _ _ (read .read-trace .ensures) (omega (arith, start-of read .pre .0 .0)) (start-of read .pre .1)
 
 enum-known-fault : tie.Need-enum-known-fault
 enum-known-fault c = search needs
@@ -35,11 +35,15 @@ enum-told : tie.Need-enum-told
 enum-told c = search needs
 
 settle-requires : tie.Need-settle-requires
+unfolding longest
 settle-requires c κs =
-    let c₈ = c .before .before .before .before .before .before .before .before in
-    let read = read-of (levels-of (c₈ .before .before .before .before .before .before)) in
-    ready _ _ _ _ _ (read .read-trace .ensures) (start-of read .pre .1)
-    (c₈ .before .before .before .before .before .before2 .given) (c₈ .before .before .before .latency .given) (c₈ .before .times .given) (c₈ .spare .given)
+    let c₉ = c .before .before .before .before .before .before .before .before .before in
+    let read = read-of (levels-of (c₉ .before .before .before .before .before .before)) in
+    let pre = start-of read .pre in
+    let into = read .read-trace .ensures in
+    let (sized, inside) =
+    ready _ _ _ _ _ into (pre .1) (c₉ .before .before .before .before .before .before2 .given) (c₉ .before .before .before .latency .given) (c₉ .before .times .given) (c₉ .spare .given) in
+    (sized, (inside, keepable _ _ _ _ _ into (omega (arith, pre .0 .0)) (pre .0 .1)))
 
 same-length : tie.Need-same-length
 same-length c = c .before .before .before .before .before .before .before .before .before .before .before .before .before .before .before .before .before .before .store .given
@@ -62,35 +66,38 @@ returns c =
     let statistics = c .before .before .before .before .before .before .before .before .before in
     let levels = levels-of statistics in
     let read = read-of levels in
-    line-refused _ _ _ _ _ (read .read-trace .ensures) (omega (arith, start-of read .pre .0)) _ _ (levels .check-levels .ensures) (statistics .check-statistics .ensures) _ _ (c .before .fault .given .1) _ _
+    line-refused _ _ _ _ _ (read .read-trace .ensures) (omega (arith, start-of read .pre .0 .0)) _ _ (levels .check-levels .ensures) (statistics .check-statistics .ensures) _ _ (c .before .fault .given .1) _ _
 
 same-length-6 : tie.Need-same-length-6
-same-length-6 c = c .before .before .before .before .before .before .before .before .before .before .before .before .before .before .before .before .before .before .before .before .before .before .before .before .before .before .before .before .before .before .before .before .store .given
+same-length-6 c = c .before .before .before .before .before .before .before .before .before .before .before .before .before .before .before .before .before .before .before .before .before .before .before .before .before .before .before .before .before .before .before .before .before .before .before .store .given
 
 same-length-7 : tie.Need-same-length-7
-same-length-7 c = c .before .before .before .before .before .before .before .sends .given
+same-length-7 c = c .before .before .before .before .before .before .before .before .before .sends .given
 
 same-length-8 : tie.Need-same-length-8
-same-length-8 c = omega (arith, c .before .before .before .before .before .before3 .given, c .before .before .before .before .before .before .before .before .before .before .before .before .before .before .before .before .before .before .before .before .before .before .before2 .given)
+same-length-8 c = omega (arith, c .before .before .before .before .before .before .before .before3 .given, c .before .before .before .before .before .before .before .before .before .before .before .before .before .before .before .before .before .before .before .before .before .before .before .before .before .before2 .given)
 
 same-length-9 : tie.Need-same-length-9
-same-length-9 c = omega (arith, c .before .before .before .latency2 .given, c .before .before .before .before .before .before .before .before .before .before .before .before .before .before .before .before .before .before .before .before .latency .given)
+same-length-9 c = c .before .before .before .before .before .gap .given
 
 same-length-10 : tie.Need-same-length-10
-same-length-10 c = omega (arith, c .before .times2 .given, c .before .before .before .before .before .before .before .before .before .before .before .before .before .before .before .before .before .before .times .given)
+same-length-10 c = omega (arith, c .before .before .before .latency2 .given, c .before .before .before .before .before .before .before .before .before .before .before .before .before .before .before .before .before .before .before .before .before .before .before .latency .given)
 
 same-length-11 : tie.Need-same-length-11
-same-length-11 c = omega (arith, c .spare2 .given, c .before .before .before .before .before .before .before .before .before .before .before .before .before .before .before .before .before .spare .given)
+same-length-11 c = omega (arith, c .before .times2 .given, c .before .before .before .before .before .before .before .before .before .before .before .before .before .before .before .before .before .before .before .before .before .times .given)
+
+same-length-12 : tie.Need-same-length-12
+same-length-12 c = omega (arith, c .spare2 .given, c .before .before .before .before .before .before .before .before .before .before .before .before .before .before .before .before .before .before .before .before .spare .given)
 
 returns-2 : tie.Need-returns-2
 unfolding longest
 returns-2 c =
-    let settle = c .before .before .before .before .before .before .before .before in
-    let told = settle .before .before .before .before .before .before .before in
+    let settle = c .before .before .before .before .before .before .before .before .before .before in
+    let told = settle .before .before .before .before .before .before .before .before in
     let statistics = told .before .before .before .before .before .before .before .before in
     let levels = levels-of statistics in
     let read = read-of levels in
-    lines-read _ _ _ _ _ (read .read-trace .ensures) (omega (arith, start-of read .pre .0)) _ _ (levels .check-levels .ensures) (statistics .check-statistics .ensures) (told .enum-told .given .1) (settle .settle .ensures)
+    lines-read _ _ _ _ _ (read .read-trace .ensures) (omega (arith, start-of read .pre .0 .0)) _ _ (levels .check-levels .ensures) (statistics .check-statistics .ensures) (told .enum-told .given .1) (settle .settle .ensures)
 
 pub read-spec : {M : Type 1} → statement M
 read-spec =
@@ -114,4 +121,5 @@ read-spec =
     same-length-9
     same-length-10
     same-length-11
+    same-length-12
     returns-2)

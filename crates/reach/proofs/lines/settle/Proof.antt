@@ -49,6 +49,15 @@ part-solve-start-5 c = search needs
 part-solve-end-5 : tie.Need-part-solve-end-5
 part-solve-end-5 c = search needs
 
+sub-solve-6 : tie.Need-sub-solve-6
+sub-solve-6 c = search needs
+
+part-solve-start-6 : tie.Need-part-solve-start-6
+part-solve-start-6 c = search needs
+
+part-solve-end-6 : tie.Need-part-solve-end-6
+part-solve-end-6 c = search needs
+
 solve-requires : tie.Need-solve-requires
 solve-requires c κs = search needs
 
@@ -56,27 +65,30 @@ told-requires : tie.Need-told-requires
 told-requires c κs = search needs
 
 same-length : tie.Need-same-length
-same-length c = c .before .before .before .before .before .before .before .before .sends .given .1
+same-length c = c .before .before .before .before .before .before .before .before .before .before .sends .given .1
 
 same-length-2 : tie.Need-same-length-2
-same-length-2 c = c .before .before .before .before .before .before .before2 .given .1
+same-length-2 c = c .before .before .before .before .before .before .before .before .before2 .given .1
 
 same-length-3 : tie.Need-same-length-3
-same-length-3 c = c .before .before .before .before .latency .given .1
+same-length-3 c = c .before .before .before .before .before .before .gap .given .1
 
 same-length-4 : tie.Need-same-length-4
-same-length-4 c = c .before .before .times .given .1
+same-length-4 c = c .before .before .before .before .latency .given .1
 
 same-length-5 : tie.Need-same-length-5
-same-length-5 c = c .before .spare .given .1
+same-length-5 c = c .before .before .times .given .1
+
+same-length-6 : tie.Need-same-length-6
+same-length-6 c = c .before .spare .given .1
 
 returns : tie.Need-returns
 returns c =
-    let c₉ = c .before .before .before .before .before .before .before .before .before in
-    let start = c₉ .before .before .before .before .before .before .before .before .before .before .before in
-    let solve = c₉ .solve in
-    settled _ _ (start .args .listed) (start .args .passed) (start .pre .0) (start .pre .1 .0) (start .pre .1 .1) _ _ _ (solve .ensures)
-    (solve .kept .1 .1 .0) (solve .kept .1 .1 .1 .1 .1 .0) _ _ _ (c .told .ensures)
+    let c₁₁ = c .before .before .before .before .before .before .before .before .before .before .before in
+    let start = c₁₁ .before .before .before .before .before .before .before .before .before .before .before .before .before in
+    let solve = c₁₁ .solve in
+    settled _ _ _ (start .args .listed) (start .args .passed) (start .pre .0) (start .pre .1 .0 .0) (start .pre .1 .0 .1) _ _ _ (solve .ensures)
+    (solve .kept .1 .1 .1 .0) (solve .kept .1 .1 .1 .1 .1 .1 .1 .0) (start .pre .1 .1) _ _ _ (c .told .ensures)
 
 pub settle-spec : {M : Type 1} → statement M
 settle-spec =
@@ -97,6 +109,9 @@ settle-spec =
     sub-solve-5
     part-solve-start-5
     part-solve-end-5
+    sub-solve-6
+    part-solve-start-6
+    part-solve-end-6
     solve-requires
     told-requires
     same-length
@@ -104,4 +119,5 @@ settle-spec =
     same-length-3
     same-length-4
     same-length-5
+    same-length-6
     returns)

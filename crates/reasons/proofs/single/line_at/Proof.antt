@@ -21,8 +21,8 @@ step-line-requires c κs = search needs
 
 returns : tie.Need-returns
 returns c =
-    let s = c .before .before .before .before .before .before .before .before .before .args in
-    line-told _ (s .times .now) (s .before .now) (s .latency .now) _ _ (c .before .before .stamped-at .ensures)
+    let s = c .before .before .before .before .before .before .before .before .before .before .args in
+    line-told _ (s .times .now) (s .before .now) (s .gap .now) (s .latency .now) _ _ (c .before .before .stamped-at .ensures)
     (c .before .before .before .before .cause-at .ensures) (c .step-line .ensures)
 
 pub line-at-spec : {M : Type 1} → statement M

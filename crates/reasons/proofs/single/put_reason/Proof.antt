@@ -1,5 +1,7 @@
 -- `reasons::single::put_reason` meets its contract.
 use borrow.Author.Needs.{needs}
+use lib.ListN.{length}
+use Rattle.store.specs.Layout.{entriesIn}
 use Rattle.reasons.proofs.Going.{reason-added}
 use Rattle.reasons.proofs.single.put_reason.Statement.{statement}
 use Rattle.reasons.proofs.single.put_reason.Tie as tie
@@ -25,8 +27,9 @@ same-length c = search needs
 returns : tie.Need-returns
 returns c =
     let line = c .before .before .before .before .before in
-    reason-added _ _ _ _ _ _ (line .line-at .ensures) (line .before .before .blank .ensures)
-    (line .before .before .before .before .before .before .before .before .pre .1) (c .before .before .add .ensures)
+    let start = line .before .before .before .before .before .before .before .before .before in
+    reason-added (entriesIn (start .args .store .now) (length (start .args .times .now))) _ _ _ _ _ _ (line .line-at .ensures) (line .before .before .blank .ensures)
+    (start .pre .1) (c .before .before .add .ensures)
 
 pub put-reason-spec : {M : Type 1} → statement M
 put-reason-spec =

@@ -8,8 +8,8 @@ use Rattle.showing.proofs.chained.of_line.Tie as tie
 place-on-requires : tie.Need-place-on-requires
 place-on-requires c κs = search needs
 
-no-places-requires : tie.Need-no-places-requires
-no-places-requires c κs = search needs
+zeros-requires : tie.Need-zeros-requires
+zeros-requires c κs = search needs
 
 slice-aggregate-chain : tie.Need-slice-aggregate-chain
 slice-aggregate-chain c = search needs
@@ -22,14 +22,14 @@ array-share-prefix-list c =
     let call = c .before in
     let s = call .before .before .before .before .before .before .before .before .before in
     in-list (query (s .args .trace .now) (s .args .latencies .now) (s .args .asked)) (s .args .line .now) _ (s .args .times .now)
-    (call .before .before .before .place-on .ensures) (call .before .before .no-places .ensures) (call .chain .ensures)
+    (call .before .before .before .place-on .ensures) (call .before .before .zeros .ensures) (call .chain .ensures)
 
 slice-aggregate-told : tie.Need-slice-aggregate-told
 slice-aggregate-told c =
     let call = c .before .before in
     let s = call .before .before .before .before .before .before .before .before .before in
     taken (query (s .args .trace .now) (s .args .latencies .now) (s .args .asked)) (s .args .line .now) _ (s .args .times .now)
-    (call .before .before .before .place-on .ensures) (call .before .before .no-places .ensures) (call .chain .ensures)
+    (call .before .before .before .place-on .ensures) (call .before .before .zeros .ensures) (call .chain .ensures)
 
 told-requires : tie.Need-told-requires
 told-requires c κs =
@@ -37,7 +37,7 @@ told-requires c κs =
     let s = call .before .before .before .before .before .before .before .before .before in (
       s .pre .0,
       few-taken (query (s .args .trace .now) (s .args .latencies .now) (s .args .asked)) (s .args .line .now) _ (s .args .times .now)
-          (call .before .before .before .place-on .ensures) (call .before .before .no-places .ensures) (call .chain .ensures),
+          (call .before .before .before .place-on .ensures) (call .before .before .zeros .ensures) (call .chain .ensures),
       s .pre .1,
     )
 
@@ -49,7 +49,7 @@ returns c =
     let call = c .before .before .before .before .before .before in
     let s = call .before .before .before .before .before .before .before .before .before in
     line-told (query (s .args .trace .now) (s .args .latencies .now) (s .args .asked)) (s .args .line .now) _ (s .args .times .now)
-    (call .before .before .before .place-on .ensures) (call .before .before .no-places .ensures) (call .chain .ensures)
+    (call .before .before .before .place-on .ensures) (call .before .before .zeros .ensures) (call .chain .ensures)
     (c .before .before .told .ensures)
 
 pub of-line-spec : {M : Type 1} → statement M
@@ -57,7 +57,7 @@ of-line-spec =
     tie.close
     (tie.spec
     place-on-requires
-    no-places-requires
+    zeros-requires
     slice-aggregate-chain
     chain-requires
     array-share-prefix-list

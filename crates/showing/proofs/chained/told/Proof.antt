@@ -16,7 +16,7 @@ same-length c = search needs
 returns : tie.Need-returns
 returns c =
     let s = c .before .before .before .before .before .before .before .before .before .before .before .args in
-    refusal-told _ _ (s .times .now) _ (s .filled) (search needs) (c .before .before .before .before .answer-of .ensures) (c .before .before .say-into .ensures)
+    refusal-told _ _ _ (s .times .now) _ (s .filled) (search needs) (c .before .before .before .before .answer-of .ensures) (c .before .before .say-into .ensures)
 
 put-chain-requires : tie.Need-put-chain-requires
 put-chain-requires c κs = c .before .before .before .before .before .before .before .pre
@@ -27,7 +27,7 @@ same-length-2 c = search needs
 returns-2 : tie.Need-returns-2
 returns-2 c =
     let s = c .before .before .before .before .before .before .before .before .before .before .args in
-    filling-told _ _ (s .times .now) _ (s .filled) (search needs) (c .before .before .put-chain .ensures)
+    filling-told _ _ _ (s .times .now) _ (s .filled) (search needs) (c .before .before .put-chain .ensures)
 
 pub told-spec : {M : Type 1} → statement M
 told-spec =

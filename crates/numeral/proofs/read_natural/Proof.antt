@@ -1,10 +1,9 @@
--- `lookup::line_in` meets its contract.
-use borrow.Author.Needs.{needs}
-use borrow.Author.Needs.{sfits-of}
+-- `numeral::read_natural` meets its contract.
+use borrow.Author.Needs.{needs, sfits-of}
 use mir.Facts.{toZ-ofZ}
-use Rattle.lookup.proofs.Place.{no-number, a-number}
-use Rattle.lookup.proofs.line_in.Statement.{statement}
-use Rattle.lookup.proofs.line_in.Tie as tie
+use Rattle.numeral.proofs.Naturals.{no-number, a-number}
+use Rattle.numeral.proofs.read_natural.Statement.{statement}
+use Rattle.numeral.proofs.read_natural.Tie as tie
 
 read-number-requires : tie.Need-read-number-requires
 read-number-requires c κs = search needs
@@ -26,8 +25,8 @@ returns-2 c =
     a-number _ (c .before .before .before .before .read-number .ensures) (c .before .before .z .given .1)
     (toZ-ofZ (sfits-of (c .before .known-told .given .0 .1))) (c .size .ensures)
 
-pub line-in-spec : {M : Type 1} → statement M
-line-in-spec =
+pub read-natural-spec : {M : Type 1} → statement M
+read-natural-spec =
     tie.close
     (tie.spec
     read-number-requires

@@ -1,13 +1,10 @@
--- `lines::step::put_latency` meets its contract.
+-- `lines::step::put_numbered` meets its contract.
 use borrow.Author.Needs.{needs}
 use Rattle.paper.specs.Text.{bytesOf}
 use Rattle.report.specs.Report.{numbered}
 use Rattle.report.proofs.Puts.{then}
-use Rattle.lines.proofs.step.put_latency.Statement.{statement}
-use Rattle.lines.proofs.step.put_latency.Tie as tie
-
-slice-aggregate-put-named : tie.Need-slice-aggregate-put-named
-slice-aggregate-put-named c = search needs
+use Rattle.lines.proofs.step.put_numbered.Statement.{statement}
+use Rattle.lines.proofs.step.put_numbered.Tie as tie
 
 put-named-requires : tie.Need-put-named-requires
 put-named-requires c κs = search needs
@@ -27,13 +24,7 @@ returns c =
     let c₂ = c .before .before in
     then (c₂ .before .before .before .before .before .put-named .ensures .put) (c₂ .put-word .ensures)
 
-pub put-latency-spec : {M : Type 1} → statement M
-put-latency-spec =
+pub put-numbered-spec : {M : Type 1} → statement M
+put-numbered-spec =
     tie.close
-    (tie.spec
-    slice-aggregate-put-named
-    put-named-requires
-    slice-aggregate-put-word
-    put-word-requires
-    same-length
-    returns)
+    (tie.spec put-named-requires slice-aggregate-put-word put-word-requires same-length returns)
