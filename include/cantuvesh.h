@@ -3,11 +3,11 @@
  * ./library makes it for x86-64, as lib/libcantuvesh.a and lib/libcantuvesh.so beside
  * include/cantuvesh.h, and prints the line that compiles a program with it. It needs no set-up, keeps
  * nothing between calls, allocates nothing and may be called from several threads at once, each with
- * times, room and lists of its own. To judge takes some 160,000 bytes of the calling thread's stack
- * (155,576 as reference/stack measured it: at 2,048 records, the written trace wanted, and with the
+ * times, room and lists of its own. To judge takes some 180,000 bytes of the calling thread's stack
+ * (171,960 as reference/stack measured it: at 2,048 records, the written trace wanted, and with the
  * registers that the loader keeps where it binds a function at its first use), to merge some 90,000
- * (83,288), to list the messages some 190,000 (186,040), and a chain of 2,048 records some 370,000
- * (360,944).
+ * (83,288), to list the messages some 210,000 (202,424), and a chain of 2,048 records some 370,000
+ * (360,960).
  */
 #ifndef CANTUVESH_H
 #define CANTUVESH_H
@@ -20,13 +20,14 @@
 extern "C" {
 #endif
 
-#define CANTUVESH_VERSION "0.8.0"
+#define CANTUVESH_VERSION "0.9.0"
 
 /* The sizes of a call. Each of two traces that are merged has the limits of a trace by itself. */
 #define CANTUVESH_TRACE_LIMIT 65536     /* the most bytes that a trace may have */
 #define CANTUVESH_PROCESSORS 64         /* processors are 0 to 63 */
 #define CANTUVESH_LATENCIES 4096        /* the exact number of lent latencies */
 #define CANTUVESH_LATENCY_LIMIT 1000000 /* the highest latency, in microseconds */
+#define CANTUVESH_SHARE_LIMIT 1000      /* the highest share of a gap, in thousandths: all of it */
 #define CANTUVESH_TIMES 2048            /* the exact number of lent times; the most listed records */
 #define CANTUVESH_ROOM 81920            /* so many bytes of room are enough for every written trace */
 
@@ -43,8 +44,8 @@ extern "C" {
 #define CANTUVESH_STATISTICS_ON 1  /* what they tell has to agree with the records before them (19) */
 
 /* What the caller names beside the trace and the table. Nothing in it has a default here, but C sets
- * what an initializer leaves out to 0, which is refused as a choice and is off as a switch: name all
- * three.
+ * what an initializer leaves out to 0, which is refused as a choice, is off as a switch and as a share
+ * keeps nothing: name all four.
  *
  * Tracing levels are told by marks: records of type -2 and event -904 with three data under descriptor
  * 2. No other record counts. The three expected levels stand in the order of these data and may be any
@@ -62,6 +63,14 @@ extern "C" {
  *           received by its exits; of other events it is not compared
  *
  * A count or volume of -1 is not compared.
+ *
+ * The share is how much is kept, in thousandths, of the gap between a listed record and the one before it
+ * on its processor, statistics among them. Where a receive moves, what follows it on its processor is
+ * squeezed: at share 0 records that were apart may come to one time. At 500 each lies behind the one before
+ * it by half of the microseconds that were between their original times at least, rounded down for each gap
+ * by itself: 3 of 7, and 0 of 1. At 1,000 no gap shrinks. A trace whose times need not move at share 0 has
+ * these times at every share. Others come to no earlier times at a higher share, or to none (15): two
+ * messages that wait for each other have times only where nothing is kept between them.
  */
 struct cantuvesh_asked {
     uint32_t choice;     /* what to do with an unlisted line: CANTUVESH_STRICT or CANTUVESH_LENIENT */
@@ -70,6 +79,7 @@ struct cantuvesh_asked {
     int64_t user;        /* the expected level of user events */
     int64_t trace;       /* the expected level of trace events */
     uint32_t statistics; /* whether statistics are compared: one of the two above; from 0.8.0 on */
+    uint32_t share;      /* how much of each gap is kept: 0 to CANTUVESH_SHARE_LIMIT; from 0.9.0 on */
 };
 
 /* Messages are records with three data under descriptor 2: the length in bytes, the type, and the
@@ -126,7 +136,7 @@ struct cantuvesh_answer {
  *
  *    1  the choice is neither 1 (strict) nor 2 (lenient), or the levels' or the statistics' switch is
  *       neither 0 (off) nor 1 (on)
- *    2  the table or the lent times have the wrong length
+ *    2  the table or the lent times have the wrong length, or the share is above 1,000
  *    3  a latency is above 1,000,000
  *    4  the trace is longer than 65,536 bytes
  *    5  the form of the line, or of a field of it other than the timestamp, is bad (bad data too)
@@ -139,8 +149,7 @@ struct cantuvesh_answer {
  *   12  there is a listed record number 2,049
  *   13  the receive has no matching send
  *   14  the receive's length is above its send's
- *   15  no times exist: a ring of waits has latencies that add up to more than 0, or a time would be
- *       beyond the format's end
+ *   15  no times exist: a ring of waits adds up to more than 0, or a time would be beyond the format's end
  *   16  the trace to be written, corrected or merged, is longer than the room, or the list to be
  *       filled is too short
  *   17  a processor with listed records has no tracing-level mark that counts, or its last one is not
@@ -164,7 +173,8 @@ struct cantuvesh_answer {
  *     What the caller names, by value: in asked.choice CANTUVESH_STRICT or CANTUVESH_LENIENT, in
  *     asked.levels CANTUVESH_LEVELS_OFF or CANTUVESH_LEVELS_ON and, where they are on, in asked.picl,
  *     asked.user and asked.trace what the last mark of each processor with listed records has to tell;
- *     in asked.statistics CANTUVESH_STATISTICS_OFF or CANTUVESH_STATISTICS_ON.
+ *     in asked.statistics CANTUVESH_STATISTICS_OFF or CANTUVESH_STATISTICS_ON; in asked.share 0 to
+ *     CANTUVESH_SHARE_LIMIT.
  * times, times_len
  *     Where an accepted trace's corrected times go, in microseconds and in file order of the listed
  *     records: times[0] to times[listed - 1] of CANTUVESH_TIMES places. All later ones are left as
@@ -252,7 +262,7 @@ struct cantuvesh_message {
  *
  * trace, trace_len; latencies, latencies_len; asked
  *     As cantuvesh_judge takes them. What that refuses from 1 to 15, by 17 and by 19, is refused here, too,
- *     with the same line and column; no times are lent, so 2 means the table alone.
+ *     with the same line and column; no times are lent, so 2 means the table or the share.
  * list, list_len
  *     Where the messages go: list[0] to list[filled - 1]. A list that is too short is refused (16); half of
  *     CANTUVESH_TIMES are always enough, and without a message an empty list is. All later places are left
@@ -270,11 +280,11 @@ struct cantuvesh_filled cantuvesh_messages(
 /* Tells why one record's time moved: the chain of records from it back to one that is still at its original
  * time.
  *
- * Each step goes to the record before on the same processor, if that has the same time, or from a receive to
- * its send, if that plus the latency is its time. So the time of the last record in the chain and the
- * latencies on the way add up to the time of the first, and no record occurs twice. It is a chain with the
- * fewest steps, and of those, at the first step where two differ, the one that goes to the record before on
- * the processor. A record that has not moved is alone in its chain.
+ * Each step goes to the record before on the same processor, if that plus the gap that is kept between them
+ * is its time, or from a receive to its send, if that plus the latency is. So the time of the last record in
+ * the chain, and the latencies and kept gaps on the way, add up to the time of the first, and no record
+ * occurs twice. It is a chain with the fewest steps, and of those, at the first step where two differ, the
+ * one that goes to the record before on the processor. A record that has not moved is alone in its chain.
  *
  * trace, trace_len; latencies, latencies_len; asked
  *     As above.

@@ -8,7 +8,7 @@ not gives the least later times at which all agree. The library behind it is pro
 ... -3 -21 0.000011 1 0 3 2 8 2 0
 ... -4 -51 0.000013 0 0 3 2 8 2 1
 ... '''
->>> answer = cantuvesh.judge(trace, cantuvesh.table({}, default=5), "strict", levels="off", statistics="off")
+>>> answer = cantuvesh.judge(trace, cantuvesh.table({}, default=5), "strict", levels="off", statistics="off", share=0)
 >>> answer.verdict, answer.matched, list(answer.times)
 ('corrected', 2, [10, 12, 15, 15, 20])
 
@@ -17,8 +17,8 @@ Messages may be blocking, or posted and finished later: a send is the entry of -
 tells why a time moved.
 
 The library is looked for in the folder that CANTUVESH_LIBRARY names, else in the checkout's target/library. A call keeps nothing
-and may be made from several threads at once; to judge takes some 160,000 bytes of the calling thread's stack, to merge some 90,000,
-to list the messages some 190,000, and a chain up to some 370,000.
+and may be made from several threads at once; to judge takes some 180,000 bytes of the calling thread's stack, to merge some 90,000,
+to list the messages some 210,000, and a chain up to some 370,000.
 """
 
 from __future__ import annotations
@@ -31,11 +31,12 @@ from dataclasses import dataclass
 from pathlib import Path
 from typing import Literal, Tuple, Union
 
-VERSION = "0.8.0"  # of the library: another one's call may be another
+VERSION = "0.9.0"  # of the library: another one's call may be another
 TRACE_LIMIT = 65_536  # the most bytes that a trace may have
 PROCESSORS = 64  # processors are 0 to 63
 LATENCIES = PROCESSORS * PROCESSORS  # the exact number of latencies in a table
 LATENCY_LIMIT = 1_000_000  # the highest latency, in microseconds
+SHARE_LIMIT = 1_000  # the highest share of a gap, in thousandths: all of it
 TIMES = 2_048  # the most listed records
 ROOM = TRACE_LIMIT + 8 * TIMES  # so many bytes are enough for every written trace
 
@@ -51,7 +52,7 @@ _VERDICTS: dict[int, Verdict] = {1: "consistent", 2: "corrected", 3: "nothing to
 
 _SENTENCES = {
     1: "the choice is neither 1 (strict) nor 2 (lenient), or the levels' or the statistics' switch is neither 0 (off) nor 1 (on)",
-    2: "the table or the lent times have the wrong length",
+    2: "the table or the lent times have the wrong length, or the share is above 1,000",
     3: "a latency is above 1,000,000",
     4: "the trace is longer than 65,536 bytes",
     5: "the form of the line, or of a field of it other than the timestamp, is bad (bad data too)",
@@ -64,7 +65,7 @@ _SENTENCES = {
     12: "there is a listed record number 2,049",
     13: "the receive has no matching send",
     14: "the receive's length is above its send's",
-    15: "no times exist: a ring of waits has latencies that add up to more than 0, or a time would be beyond the format's end",
+    15: "no times exist: a ring of waits adds up to more than 0, or a time would be beyond the format's end",
     16: "the trace to be written, corrected or merged, is longer than the room, or the list to be filled is too short",
     17: "a processor with listed records has no tracing-level mark that counts, or its last one is not what is expected",
     18: "both of the traces to be merged hold a listed record of the same processor",
@@ -144,6 +145,7 @@ def judge(
     choice: Choice,
     levels: Levels,
     statistics: Statistics,
+    share: int,
     *,
     written: bool = False,
 ) -> Accepted:
@@ -158,23 +160,42 @@ def judge(
     statistics
              "on" or "off": whether what statistics records of event -1 tell of times (-101), counts (-102) and volumes (-103)
              has to agree with the earlier records of their processor, times to within one microsecond for each entry
+    share    how much is kept of the gap between each listed record and the one before it on its processor, in thousandths: 0 to
+             1,000, and a higher one is refused (2). Where a receive moves, what follows it on its processor is squeezed: at share
+             0 records that were apart may come to one time. At 500 each lies behind the one before it by half of the
+             microseconds that were between them at least, rounded down for each gap by itself; at 1,000 no gap shrinks. A trace
+             whose times need not move at share 0 has these times at every share; others come to no earlier ones at a higher
+             share, or to none
     written  whether the trace with the corrected times is wanted, too
 
     >>> trace = b"-2 -904 0.000000 0 0 3 2 4 4 0\\n-3 7 0.000001 0 0 0\\n"
-    >>> judge(trace, table({}, default=0), "strict", levels=(4, 4, 0), statistics="on").listed
+    >>> judge(trace, table({}, default=0), "strict", levels=(4, 4, 0), statistics="on", share=0).listed
     2
     >>> try:
-    ...     judge(trace, table({}, default=0), "strict", levels=(4, 4, 1), statistics="on")
+    ...     judge(trace, table({}, default=0), "strict", levels=(4, 4, 1), statistics="on", share=0)
     ... except Refused as refused:
     ...     print(refused.number, refused.line)
     17 2
     >>> try:
-    ...     judge(b'-102 -1 0.000001 0 0 1 "%d%d" 7 2\\n', table({}, default=0), "strict", levels="off", statistics="on")
+    ...     judge(b'-102 -1 0.000001 0 0 1 "%d%d" 7 2\\n', table({}, default=0), "strict", levels="off", statistics="on", share=0)
     ... except Refused as refused:
     ...     print(refused.number, refused.line)
     19 1
+
+    What processor 1 does 1 and then 7 microseconds later goes with what it received:
+
+    >>> trace = b'''-3 -21 0.000100 0 0 3 2 8 1 1
+    ... -4 -52 0.000010 1 0 3 2 8 1 0
+    ... -3 7 0.000011 1 0 0
+    ... -4 7 0.000018 1 0 0
+    ... '''
+    >>> for share in (0, 500, 1_000):
+    ...     list(judge(trace, table({}, default=5), "strict", levels="off", statistics="off", share=share).times)
+    [100, 105, 105, 105]
+    [100, 105, 105, 108]
+    [100, 105, 106, 113]
     """
-    asked = _asked(choice, levels, statistics)
+    asked = _asked(choice, levels, statistics, share)
     text = _text(trace, "the trace")
     latencies = _latencies(table)
     times = (ctypes.c_int64 * TIMES)()
@@ -232,6 +253,7 @@ def messages(
     choice: Choice,
     levels: Levels,
     statistics: Statistics,
+    share: int,
 ) -> list[tuple[int, int]]:
     """Lists the messages of one trace, one for each receive and in file order of the receives: the places of its send and of its
     receive. Places count the listed records from 0 in file order, as the times of `judge` do.
@@ -239,10 +261,10 @@ def messages(
     The arguments are those of `judge`, and what that refuses raises the same Refused.
 
     >>> trace = b"-4 -52 0.000009 1 0 3 2 8 1 0\\n-3 -21 0.000010 0 0 3 2 8 1 1\\n"
-    >>> messages(trace, table({}, default=5), "strict", levels="off", statistics="off")
+    >>> messages(trace, table({}, default=5), "strict", levels="off", statistics="off", share=0)
     [(1, 0)]
     """
-    asked = _asked(choice, levels, statistics)
+    asked = _asked(choice, levels, statistics, share)
     text = _text(trace, "the trace")
     latencies = _latencies(table)
     places = (_Message * (TIMES // 2))()  # each has two records
@@ -259,14 +281,15 @@ def chain(
     choice: Choice,
     levels: Levels,
     statistics: Statistics,
+    share: int,
     place: int,
 ) -> list[int]:
     """Tells why one record's time moved: the places of the records from it back to one that is still at its original time.
 
-    Each step goes to the record before on the same processor, if that has the same time, or from a receive to its send, if that
-    plus the latency is its time. So the time of the last record in the chain and the latencies on the way add up to the time of the
-    first. It is a chain with the fewest steps, and of those, at the first step where two differ, the one that goes to the record
-    before on the processor. A record that has not moved is alone in its chain.
+    Each step goes to the record before on the same processor, if that plus the gap that is kept between them is its time, or from
+    a receive to its send, if that plus the latency is. So the time of the last record in the chain, and the latencies and kept
+    gaps on the way, add up to the time of the first. It is a chain with the fewest steps, and of those, at the first step where
+    two differ, the one that goes to the record before on the processor. A record that has not moved is alone in its chain.
 
     place  the asked record: places count the listed records from 0 in file order, as the times of `judge` do. One that is not
            below their number is refused (22)
@@ -274,10 +297,10 @@ def chain(
     The other arguments are those of `judge`, and what that refuses raises the same Refused.
 
     >>> trace = b"-3 -21 0.000010 0 0 3 2 8 1 1\\n-4 -52 0.000009 1 0 3 2 8 1 0\\n-3 7 0.000011 1 0 0\\n"
-    >>> chain(trace, table({}, default=5), "strict", levels="off", statistics="off", place=2)
+    >>> chain(trace, table({}, default=5), "strict", levels="off", statistics="off", share=0, place=2)
     [2, 1, 0]
     """
-    asked = _asked(choice, levels, statistics)
+    asked = _asked(choice, levels, statistics, share)
     if not _is_whole(place, 2**64 - 1):
         raise ValueError(f"the place should be a whole number of 64 bits from 0, and is {place!r}")
     text = _text(trace, "the trace")
@@ -296,17 +319,19 @@ def _numbered(choice: Choice) -> int:
     return _CHOICES[choice]
 
 
-def _asked(choice: Choice, levels: Levels, statistics: Statistics) -> _Asked:
+def _asked(choice: Choice, levels: Levels, statistics: Statistics, share: int) -> _Asked:
     number = _numbered(choice)
     if not (isinstance(statistics, str) and statistics in _SWITCHES):
         raise ValueError(f'the statistics should be "on" or "off", and are {statistics!r}')
     switch = _SWITCHES[statistics]
+    if not _is_whole(share, 2**32 - 1):
+        raise ValueError(f"the share should be a whole number of thousandths from 0 to 1,000, and is {share!r}")
     if isinstance(levels, str) and levels == "off":
-        return _Asked(choice=number, levels=_OFF, statistics=switch)
+        return _Asked(choice=number, levels=_OFF, statistics=switch, share=share)
     if not (isinstance(levels, tuple) and len(levels) == 3 and all(_is_level(level) for level in levels)):
         raise ValueError(f'the levels should be "off" or three whole numbers of 64 bits, and are {levels!r}')
     picl, user, trace = levels
-    return _Asked(choice=number, levels=_ON, picl=picl, user=user, trace=trace, statistics=switch)
+    return _Asked(choice=number, levels=_ON, picl=picl, user=user, trace=trace, statistics=switch, share=share)
 
 
 def _is_level(value: object) -> bool:
@@ -354,6 +379,7 @@ class _Asked(ctypes.Structure):
         ("levels", ctypes.c_uint32),
         *((name, ctypes.c_int64) for name in ("picl", "user", "trace")),
         ("statistics", ctypes.c_uint32),
+        ("share", ctypes.c_uint32),
     ]
 
 

@@ -13,7 +13,7 @@
 //! ";
 //! let latencies = Latencies::everywhere(5);
 //! let mut times = [0; TIMES];
-//! let asked = Asked { choice: Choice::Strict, levels: Levels::Off, statistics: Statistics::Off };
+//! let asked = Asked { choice: Choice::Strict, levels: Levels::Off, statistics: Statistics::Off, share: 0 };
 //! let accepted = judge(trace, &latencies, asked, &mut times, None)?;
 //! assert_eq!(accepted.verdict, Verdict::Corrected);
 //! assert_eq!(times[..accepted.listed], [10, 12, 15, 15, 20]);
@@ -27,7 +27,7 @@
 //! and [why a time moved](chain), is told of an accepted trace by its records' places.
 //!
 //! A call keeps nothing, allocates nothing, and may be made from several threads at once. To judge takes
-//! some 160,000 bytes of the calling thread's stack, to merge some 90,000, to list the messages some 190,000,
+//! some 180,000 bytes of the calling thread's stack, to merge some 90,000, to list the messages some 210,000,
 //! and a chain up to some 370,000.
 
 #![deny(missing_docs)]
@@ -53,6 +53,8 @@ pub const PROCESSORS: usize = 64;
 pub const LATENCIES: usize = PROCESSORS * PROCESSORS;
 /// The highest latency, in microseconds.
 pub const LATENCY_LIMIT: u32 = 1_000_000;
+/// The highest share of a gap, in thousandths: all of it.
+pub const SHARE_LIMIT: u32 = 1_000;
 /// The exact number of lent times; the most listed records.
 pub const TIMES: usize = 2_048;
 /// So many bytes of room are enough for every written trace.
@@ -77,7 +79,7 @@ pub enum Choice {
 ///
 /// let trace = b"-2 -904 0.000000 0 0 3 2 4 4 0\n-3 7 0.000001 0 0 0\n";
 /// let judged = |levels| {
-///     let asked = Asked { choice: Choice::Strict, levels, statistics: Statistics::Off };
+///     let asked = Asked { choice: Choice::Strict, levels, statistics: Statistics::Off, share: 0 };
 ///     judge(trace, &Latencies::everywhere(0), asked, &mut [0; TIMES], None)
 /// };
 /// assert!(judged(Levels::Off).is_ok());
@@ -111,7 +113,7 @@ pub enum Levels {
 ///
 /// let trace = b"-3 7 0.000001 0 0 0\n-102 -1 0.000001 0 0 1 \"%d%d\" 7 2\n";
 /// let judged = |statistics| {
-///     let asked = Asked { choice: Choice::Strict, levels: Levels::Off, statistics };
+///     let asked = Asked { choice: Choice::Strict, levels: Levels::Off, statistics, share: 0 };
 ///     judge(trace, &Latencies::everywhere(0), asked, &mut [0; TIMES], None)
 /// };
 /// assert!(judged(Statistics::Off).is_ok());
@@ -136,16 +138,47 @@ pub struct Asked {
     pub levels: Levels,
     /// Whether statistics records are compared.
     pub statistics: Statistics,
+    /// How much is kept of the gap between each listed record and the one before it on its processor, in
+    /// thousandths: 0 to [`SHARE_LIMIT`], and a higher one is refused by the call.
+    ///
+    /// Where a receive moves, what follows it on its processor is squeezed: at share 0 records that were
+    /// apart may come to one time. At 500 each lies behind the one before it by half of the microseconds that
+    /// were between them at least, rounded down for each gap by itself; at 1,000 no gap shrinks. A trace whose
+    /// times need not move at share 0 has these times at every share; others come to no earlier ones at a
+    /// higher share, or to none.
+    ///
+    /// ```
+    /// use cantuvesh::{Asked, Choice, Latencies, Levels, Statistics, TIMES, judge};
+    ///
+    /// // What processor 1 does 1 and then 7 microseconds later goes with what it received.
+    /// let trace = b"-3 -21 0.000100 0 0 3 2 8 1 1
+    /// -4 -52 0.000010 1 0 3 2 8 1 0
+    /// -3 7 0.000011 1 0 0
+    /// -4 7 0.000018 1 0 0
+    /// ";
+    /// let times_at = |share| {
+    ///     let statistics = Statistics::Off;
+    ///     let asked = Asked { choice: Choice::Strict, levels: Levels::Off, statistics, share };
+    ///     let mut times = [0; TIMES];
+    ///     let accepted = judge(trace, &Latencies::everywhere(5), asked, &mut times, None)?;
+    ///     Ok::<_, cantuvesh::Refused>(times[..accepted.listed].to_vec())
+    /// };
+    /// assert_eq!(times_at(0)?, [100, 105, 105, 105]);
+    /// assert_eq!(times_at(500)?, [100, 105, 105, 108]);
+    /// assert_eq!(times_at(1_000)?, [100, 105, 106, 113]);
+    /// # Ok::<(), cantuvesh::Refused>(())
+    /// ```
+    pub share: u32,
 }
 
 /// As the C call takes it: the numbers of levels that are off are not looked at.
 impl From<Asked> for raw::Asked {
-    fn from(Asked { choice, levels, statistics }: Asked) -> raw::Asked {
+    fn from(Asked { choice, levels, statistics, share }: Asked) -> raw::Asked {
         let (levels, [picl, user, trace]) = match levels {
             Levels::Off => (0, [0; 3]),
             Levels::Expected { picl, user, trace } => (1, [picl, user, trace]),
         };
-        raw::Asked { choice: choice as u32, levels, picl, user, trace, statistics: statistics as u32 }
+        raw::Asked { choice: choice as u32, levels, picl, user, trace, statistics: statistics as u32, share }
     }
 }
 
@@ -287,7 +320,7 @@ pub fn merge(first: &[u8], second: &[u8], choice: Choice, room: &mut [u8]) -> Re
 /// -4 -52 0.000009 1 0 3 2 8 1 0
 /// -3 -21 0.000010 0 0 3 2 8 1 1
 /// ";
-/// let asked = Asked { choice: Choice::Strict, levels: Levels::Off, statistics: Statistics::Off };
+/// let asked = Asked { choice: Choice::Strict, levels: Levels::Off, statistics: Statistics::Off, share: 0 };
 /// let mut list = [Message::default(); TIMES / 2];
 /// let many = messages(trace, &Latencies::everywhere(5), asked, &mut list)?;
 /// assert_eq!(list[..many], [Message { send: 2, receive: 1 }]);
@@ -297,7 +330,7 @@ pub fn merge(first: &[u8], second: &[u8], choice: Choice, room: &mut [u8]) -> Re
 /// # Errors
 ///
 /// What [`judge`] refuses is refused, for the same reason and at the same line and column; no times are lent
-/// here, so that 2 means the table alone. Then a list that is too short is (16).
+/// here, so that 2 means the table or the share. Then a list that is too short is (16).
 pub fn messages(
     trace: &[u8],
     latencies: &[u32],
@@ -310,11 +343,11 @@ pub fn messages(
 /// Tells why one record's time moved, and gives how many records are in the chain: they are `list[..many]`,
 /// by their places, from the asked one back to one that is still at its original time.
 ///
-/// Each step goes to the record before on the same processor, if that has the same time, or from a receive
-/// to its send, if that plus the latency is its time. So the time of the last record in the chain and the
-/// latencies on the way add up to the time of the first. It is a chain with the fewest steps, and of those,
-/// at the first step where two differ, the one that goes to the record before on the processor. A record that
-/// has not moved is alone in its chain.
+/// Each step goes to the record before on the same processor, if that plus the gap that is kept between them
+/// is its time, or from a receive to its send, if that plus the latency is. So the time of the last record in
+/// the chain, and the latencies and kept gaps on the way, add up to the time of the first. It is a chain with
+/// the fewest steps, and of those, at the first step where two differ, the one that goes to the record before
+/// on the processor. A record that has not moved is alone in its chain.
 ///
 /// `trace`, `latencies` and `asked` are those of [`judge`]; `place` counts the listed records from 0 in file
 /// order, as its times do. [`TIMES`] places are always enough for the list.
@@ -329,7 +362,7 @@ pub fn messages(
 /// -3 7 0.000011 1 0 0
 /// ";
 /// let latencies = Latencies::everywhere(5);
-/// let asked = Asked { choice: Choice::Strict, levels: Levels::Off, statistics: Statistics::Off };
+/// let asked = Asked { choice: Choice::Strict, levels: Levels::Off, statistics: Statistics::Off, share: 0 };
 /// let mut list = [0; TIMES];
 /// let many = chain(trace, &latencies, asked, 2, &mut list)?;
 /// assert_eq!(list[..many], [2, 1, 0]); // at 15 by 15 before it, that is 10 and 5

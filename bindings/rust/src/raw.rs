@@ -20,6 +20,8 @@ pub struct Asked {
     pub trace: i64,
     /// Whether statistics records are compared: 0 off, 1 on; all else is refusal 1.
     pub statistics: u32,
+    /// How many thousandths are kept of each gap: 0 to 1,000; all else is refusal 2.
+    pub share: u32,
 }
 
 /// `struct cantuvesh_answer`: a refusal has its number, line and column, and 0 in all the rest.

@@ -36,7 +36,7 @@ macro_rules! refusals {
 
 refusals! {
     Choice = 1 "the choice is neither 1 (strict) nor 2 (lenient), or the levels' or the statistics' switch is neither 0 (off) nor 1 (on)"
-    Lengths = 2 "the table or the lent times have the wrong length"
+    Lengths = 2 "the table or the lent times have the wrong length, or the share is above 1,000"
     Latency = 3 "a latency is above 1,000,000"
     TraceTooLong = 4 "the trace is longer than 65,536 bytes"
     Form = 5 "the form of the line, or of a field of it other than the timestamp, is bad (bad data too)"
@@ -49,7 +49,7 @@ refusals! {
     TooManyRecords = 12 "there is a listed record number 2,049"
     NoSend = 13 "the receive has no matching send"
     LongReceive = 14 "the receive's length is above its send's"
-    NoTimes = 15 "no times exist: a ring of waits has latencies that add up to more than 0, or a time would be beyond the format's end"
+    NoTimes = 15 "no times exist: a ring of waits adds up to more than 0, or a time would be beyond the format's end"
     RoomTooShort = 16 "the trace to be written, corrected or merged, is longer than the room, or the list to be filled is too short"
     Levels = 17 "a processor with listed records has no tracing-level mark that counts, or its last one is not what is expected"
     SharedProcessor = 18 "both of the traces to be merged hold a listed record of the same processor"
@@ -96,7 +96,7 @@ impl Which {
 /// use cantuvesh::{Asked, Choice, Latencies, Levels, Statistics, TIMES, judge};
 ///
 /// let trace = b"-3 7 0.000000 0 0 0\n-4 7 0.000001 0 0 3 2 8 one 1\n";
-/// let asked = Asked { choice: Choice::Strict, levels: Levels::Off, statistics: Statistics::Off };
+/// let asked = Asked { choice: Choice::Strict, levels: Levels::Off, statistics: Statistics::Off, share: 0 };
 /// let refused = judge(trace, &Latencies::everywhere(0), asked, &mut [0; TIMES], None).unwrap_err();
 /// let (line, column) = (refused.line.unwrap().get(), refused.column.unwrap().get());
 /// assert_eq!((refused.refusal.number(), line, column), (5, 2, 25));

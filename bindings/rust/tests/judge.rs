@@ -2,8 +2,8 @@
 
 use cantuvesh::Refusal::{self, *};
 use cantuvesh::{
-    Accepted, Asked, Choice, LATENCIES, LATENCY_LIMIT, Latencies, Levels, ROOM, Refused, Statistics, TIMES,
-    TRACE_LIMIT, Verdict, judge, raw,
+    Accepted, Asked, Choice, LATENCIES, LATENCY_LIMIT, Latencies, Levels, ROOM, Refused, SHARE_LIMIT,
+    Statistics, TIMES, TRACE_LIMIT, Verdict, judge, raw,
 };
 use std::mem::{offset_of, size_of};
 use std::num::NonZero;
@@ -12,8 +12,10 @@ const TRACE_A: &[u8] = include_bytes!("../../../samples/a.picl");
 const TRACE_B: &[u8] = include_bytes!("../../../samples/b.picl");
 const SILENT: &[u8] = include_bytes!("../../../samples/silent.picl");
 const POSTED: &[u8] = include_bytes!("../../../samples/posted.picl");
+const GAPS: &[u8] = include_bytes!("../../../samples/gaps.picl");
 
-const STRICT: Asked = Asked { choice: Choice::Strict, levels: Levels::Off, statistics: Statistics::Off };
+const STRICT: Asked =
+    Asked { choice: Choice::Strict, levels: Levels::Off, statistics: Statistics::Off, share: 0 };
 const LENIENT: Asked = Asked { choice: Choice::Lenient, ..STRICT };
 
 /// Stands in every lent place beforehand; no time of a sample.
@@ -221,6 +223,51 @@ fn statistics_that_are_compared() {
 }
 
 #[test]
+fn gaps_that_are_kept() {
+    let at = |share, trace: &[u8], latencies: &Latencies| {
+        let (answer, times) = judged(trace, latencies, Asked { share, ..STRICT }, None);
+        answer.map(|accepted| (times, accepted.rounds))
+    };
+    let fives = Latencies::everywhere(5);
+    for (share, times) in [
+        (0, [10, 12, 15, 15, 20]),
+        (499, [10, 12, 15, 15, 20]),
+        (500, [10, 12, 15, 16, 21]),
+        (SHARE_LIMIT, [10, 12, 15, 17, 22]),
+    ] {
+        assert_eq!(at(share, TRACE_A, &fives), Ok((times.to_vec(), 3)));
+    }
+    // 0 of a gap of 1 and 3 of one of 7.
+    for (share, times) in
+        [(0, [100, 105, 105, 105]), (500, [100, 105, 105, 108]), (SHARE_LIMIT, [100, 105, 106, 113])]
+    {
+        assert_eq!(at(share, GAPS, &fives).unwrap().0, times);
+    }
+    // A ring of waits has times as long as nothing is kept in it.
+    let none = Latencies::everywhere(0);
+    assert_eq!(at(SHARE_LIMIT - 1, TRACE_B, &none), Ok((vec![4; 4], 3)));
+    let refused = |share, trace, latencies: &Latencies| at(share, trace, latencies).unwrap_err().refusal;
+    assert_eq!(refused(SHARE_LIMIT, TRACE_B, &none), NoTimes);
+    for share in [SHARE_LIMIT + 1, u32::MAX] {
+        assert_eq!(refused(share, b"", &none), Lengths);
+        assert_eq!(refused(share, b"x", &Latencies::everywhere(LATENCY_LIMIT + 1)), Lengths);
+    }
+}
+
+#[test]
+fn a_written_trace_with_gaps_is_consistent() {
+    let mut room = [0; ROOM];
+    let asked = Asked { share: 500, ..STRICT };
+    let fives = Latencies::everywhere(5);
+    let (answer, times) = judged(GAPS, &fives, asked, Some(&mut room));
+    let written = &room[..answer.unwrap().written];
+    for share in [0, 500, SHARE_LIMIT] {
+        let (again, same_times) = judged(written, &fives, Asked { share, ..STRICT }, None);
+        assert_eq!((again.unwrap().verdict, &same_times), (Verdict::Consistent, &times));
+    }
+}
+
+#[test]
 fn a_refusal_says_its_number_its_place_and_its_sentence() {
     let of_a_line = judged(b"-5 0 0.000000 0 0 0\n", &Latencies::everywhere(0), STRICT, None).0.unwrap_err();
     let sentence = "the record type or the event type is not listed, and the choice is strict";
@@ -229,7 +276,10 @@ fn a_refusal_says_its_number_its_place_and_its_sentence() {
     let of_no_field = judged(b"-4 -52 0.000000 1 0 3 2 8 1 0\n", &Latencies::everywhere(0), STRICT, None).0;
     assert_eq!(of_no_field.unwrap_err().to_string(), "refused 13 line 1: the receive has no matching send");
     let of_all: Box<dyn std::error::Error> = judged(b"", &[], STRICT, None).0.unwrap_err().into();
-    assert_eq!(of_all.to_string(), "refused 2: the table or the lent times have the wrong length");
+    assert_eq!(
+        of_all.to_string(),
+        "refused 2: the table or the lent times have the wrong length, or the share is above 1,000"
+    );
 }
 
 #[test]
@@ -246,8 +296,8 @@ fn raw_gives_the_numbers_as_they_are() {
         rounds: 0,
         written: 0,
     };
-    let off =
-        |choice| raw::Asked { choice, levels: 0, picl: i64::MAX, user: -7, trace: i64::MIN, statistics: 0 };
+    let (picl, user, trace) = (i64::MAX, -7, i64::MIN);
+    let off = |choice| raw::Asked { choice, levels: 0, picl, user, trace, statistics: 0, share: 0 };
     let call = |asked, trace, latencies: &[u32], times: usize| {
         raw::LINKED.judge(trace, latencies, asked, &mut vec![0; times], true, &mut [0; ROOM])
     };
@@ -262,6 +312,12 @@ fn raw_gives_the_numbers_as_they_are() {
         assert_eq!(call(raw::Asked { statistics, ..off(1) }, b"", &[], 0), raw::Answer { number: 1, ..none });
     }
     assert_eq!(call(off(1), b"", &[], 0), raw::Answer { number: 2, ..none });
+    for share in [1_001, 65_536, u32::MAX] {
+        let asked = raw::Asked { share, ..off(1) };
+        assert_eq!(call(asked, b"", &[u32::MAX; LATENCIES], TIMES), raw::Answer { number: 2, ..none });
+        let unchosen = raw::Asked { choice: 0, ..asked };
+        assert_eq!(call(unchosen, b"", &[0; LATENCIES], TIMES), raw::Answer { number: 1, ..none });
+    }
     let of_a_field = raw::Answer { number: 5, line: 1, column: 2, ..none };
     assert_eq!(call(off(1), b"x\n", &[0; LATENCIES], TIMES), of_a_field);
     let on = raw::Asked { levels: 1, ..off(1) };
@@ -281,8 +337,9 @@ fn what_is_asked_has_the_places_of_c() {
         offset_of!(Asked, user),
         offset_of!(Asked, trace),
         offset_of!(Asked, statistics),
+        offset_of!(Asked, share),
     ];
-    assert_eq!((places, size_of::<Asked>()), ([0, 4, 8, 16, 24, 32], 40));
+    assert_eq!((places, size_of::<Asked>()), ([0, 4, 8, 16, 24, 32, 36], 40));
 }
 
 /// As a C compiler lays out `struct cantuvesh_answer`.

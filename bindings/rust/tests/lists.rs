@@ -2,8 +2,8 @@
 
 use cantuvesh::Refusal::{self, *};
 use cantuvesh::{
-    Asked, Choice, LATENCIES, LATENCY_LIMIT, Latencies, Levels, Message, Refused, Statistics, TIMES,
-    TRACE_LIMIT, chain, judge, messages, raw,
+    Asked, Choice, LATENCIES, LATENCY_LIMIT, Latencies, Levels, Message, Refused, SHARE_LIMIT, Statistics,
+    TIMES, TRACE_LIMIT, chain, judge, messages, raw,
 };
 use std::mem::{align_of, offset_of, size_of};
 use std::num::NonZero;
@@ -12,8 +12,10 @@ const TRACE_A: &[u8] = include_bytes!("../../../samples/a.picl");
 const TRACE_B: &[u8] = include_bytes!("../../../samples/b.picl");
 const SILENT: &[u8] = include_bytes!("../../../samples/silent.picl");
 const POSTED: &[u8] = include_bytes!("../../../samples/posted.picl");
+const GAPS: &[u8] = include_bytes!("../../../samples/gaps.picl");
 
-const STRICT: Asked = Asked { choice: Choice::Strict, levels: Levels::Off, statistics: Statistics::Off };
+const STRICT: Asked =
+    Asked { choice: Choice::Strict, levels: Levels::Off, statistics: Statistics::Off, share: 0 };
 const LENIENT: Asked = Asked { choice: Choice::Lenient, ..STRICT };
 
 /// Stands in every lent place beforehand; no record has it.
@@ -128,6 +130,32 @@ fn an_unmoved_record_is_alone() {
 }
 
 #[test]
+fn a_chain_over_gaps_that_are_kept() {
+    let fives = Latencies::everywhere(5);
+    let at = |share, place, trace: &[u8]| back_from(place, trace, &fives, Asked { share, ..STRICT }, TIMES);
+    for share in [0, 500, SHARE_LIMIT] {
+        assert_eq!(at(share, 4, TRACE_A), Ok(vec![4, 3, 2, 0]));
+        assert_eq!(at(share, 3, GAPS), Ok(vec![3, 2, 1, 0]));
+        assert_eq!(listed(GAPS, &fives, Asked { share, ..STRICT }, 1), Ok(vec![(0, 1)]));
+    }
+    // The last record of processor 2 is 14 by a gap of 8 or by a latency of 4, three steps either way.
+    let trace = b"\
+-3 -21 0.000010 0 0 3 2 8 1 2
+-3 -21 0.000010 1 0 3 2 8 1 3
+-4 -52 0.000000 2 0 3 2 8 1 0
+-4 -52 0.000000 3 0 3 2 8 1 1
+-3 -21 0.000000 3 0 3 2 8 1 2
+0 0 0.000000 2 0 0
+-4 -52 0.000008 2 0 3 2 8 1 3
+";
+    let mut latencies = Latencies::everywhere(0);
+    latencies[(3, 2)] = 4;
+    let last = |share| back_from(6, trace, &latencies, Asked { share, ..STRICT }, TIMES);
+    assert_eq!(last(500), Ok(vec![6, 5, 2, 0]));
+    assert_eq!(last(499), Ok(vec![6, 4, 3, 1]));
+}
+
+#[test]
 fn places_count_listed_records() {
     let trace = b"\
 -5 0 0.000000 0 0 0
@@ -210,6 +238,8 @@ fn what_judging_refuses() {
     let levels = Levels::Expected { picl: 1, user: 1, trace: 1 };
     let asked = Asked { levels, ..STRICT };
     assert_eq!(refused(TRACE_A, &none, asked), (Refusal::Levels, 5, 0));
+    assert_eq!(refused(TRACE_B, &none, Asked { share: SHARE_LIMIT, ..STRICT }), (NoTimes, 0, 0));
+    assert_eq!(refused(b"x", &none, Asked { share: SHARE_LIMIT + 1, ..STRICT }), (Lengths, 0, 0));
 }
 
 #[test]
@@ -246,8 +276,8 @@ fn a_refusal_says_its_number_and_its_sentence() {
 #[test]
 fn raw_gives_the_numbers_as_they_are() {
     let none = raw::Filled { number: 0, line: 0, column: 0, filled: 0 };
-    let off =
-        |choice| raw::Asked { choice, levels: 0, picl: i64::MAX, user: -7, trace: i64::MIN, statistics: 0 };
+    let (picl, user, trace) = (i64::MAX, -7, i64::MIN);
+    let off = |choice| raw::Asked { choice, levels: 0, picl, user, trace, statistics: 0, share: 0 };
     let list = |asked, trace, latencies: &[u32], places: usize| {
         raw::LINKED.messages(trace, latencies, asked, &mut vec![NO_MESSAGE; places])
     };
