@@ -25,7 +25,7 @@ int main(void)
         latencies[pair] = 5;
 
     struct cantuvesh_asked asked = {
-        .choice = CANTUVESH_STRICT, .levels = CANTUVESH_LEVELS_OFF, .statistics = CANTUVESH_STATISTICS_OFF};
+        .choice = CANTUVESH_STRICT, .levels = CANTUVESH_LEVELS_OFF, .statistics = CANTUVESH_STATISTICS_OFF, .share = 0};
     struct cantuvesh_answer answer = cantuvesh_judge(
         (const uint8_t *)trace, sizeof trace - 1,
         latencies, CANTUVESH_LATENCIES,

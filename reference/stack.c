@@ -18,7 +18,7 @@ static uint32_t latencies[CANTUVESH_LATENCIES];
 static int64_t times[CANTUVESH_TIMES];
 static uint8_t room[CANTUVESH_ROOM];
 static const struct cantuvesh_asked asked = {
-    .choice = CANTUVESH_STRICT, .levels = CANTUVESH_LEVELS_OFF, .statistics = CANTUVESH_STATISTICS_OFF};
+    .choice = CANTUVESH_STRICT, .levels = CANTUVESH_LEVELS_OFF, .statistics = CANTUVESH_STATISTICS_OFF, .share = 500};
 static struct cantuvesh_answer answer;
 
 static char nodes[2][CANTUVESH_TRACE_LIMIT];

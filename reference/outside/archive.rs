@@ -16,8 +16,8 @@ pub fn judge_by(library: Library, call: Inputs) -> Answer {
 
 /// What the reference is asked as the library is.
 pub fn asked_of(asked: Asked) -> raw::Asked {
-    let Asked { choice, levels, picl, user, trace, statistics } = asked;
-    raw::Asked { choice, levels, picl, user, trace, statistics }
+    let Asked { choice, levels, picl, user, trace, statistics, share } = asked;
+    raw::Asked { choice, levels, picl, user, trace, statistics, share }
 }
 
 /// The library's answer as the reference's.

@@ -14,7 +14,7 @@ struct AskedBefore {
 
 /// Whether the older library can be asked this.
 pub fn knows(asked: Asked) -> bool {
-    asked.levels == 0 && asked.statistics == 0
+    asked.levels == 0 && asked.statistics == 0 && asked.share == 0
 }
 
 /// Judges a trace by the older library.

@@ -1,5 +1,5 @@
-//! What the libraries before version 0.8 were asked: their statistics lines were unlisted, and none were
-//! compared.
+//! What the libraries before version 0.8 were asked: their statistics lines were unlisted, none were compared,
+//! and no gaps were kept.
 
 use reference::Asked;
 
@@ -15,7 +15,7 @@ pub struct AskedBefore {
 
 /// Whether such a library can be asked this.
 pub fn knows(asked: Asked) -> bool {
-    asked.statistics == 0
+    asked.statistics == 0 && asked.share == 0
 }
 
 /// What the reference is asked as such a library was.

@@ -1,7 +1,8 @@
-//! Request 7 of document 02: the chain that moved a record, found in two ways.
+//! Request 7 of document 02: the chain that moved a record, found in two ways. By request 9 the gaps that are
+//! kept are waited, as latencies are.
 
 use crate::Solved;
-use crate::clock::{self, Floor};
+use crate::clock::Floor;
 use std::collections::VecDeque;
 
 /// A step from a record back to one that holds it where it is. The processor's goes before the send's.
@@ -23,10 +24,9 @@ pub struct Moved {
 }
 
 impl Moved {
-    /// The records of a trace under a table.
-    pub fn of(solved: &Solved, latencies: &[u32]) -> Moved {
-        let floors = clock::floors(&solved.records, &solved.messages.send_of, latencies);
-        Moved { floors, times: solved.settled.times.clone() }
+    /// The records of a trace.
+    pub fn of(solved: &Solved) -> Moved {
+        Moved { floors: solved.floors.clone(), times: solved.settled.times.clone() }
     }
 
     /// Whether a record is still at its original time.
@@ -38,7 +38,7 @@ impl Moved {
     pub fn step(&self, place: usize, step: Step) -> Option<(usize, i64)> {
         let Floor { before, send, .. } = self.floors[place];
         match step {
-            Step::Processor => before.map(|before| (before, 0)),
+            Step::Processor => before,
             Step::Send => send,
         }
     }

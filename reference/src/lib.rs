@@ -1,12 +1,12 @@
-//! Document 01 and requests 1 to 8 of document 02 in plain Rust: one trace in; verdict, counts, corrected
+//! Document 01 and requests 1 to 9 of document 02 in plain Rust: one trace in; verdict, counts, corrected
 //! times and the corrected trace out; or its messages, or why a time moved. Or two traces in, and one out.
 //!
 //! Written from the papers alone, to be held against the proved library (`outside/compare.rs`) and
 //! measured beside it (`outside/bench.rs`). The modules follow the papers' order: [`form`],
 //! [`field`] and [`line`] are "One line, one record" and requests 2 and 5, [`trace`] reads line after line,
-//! [`levels`] is request 1, [`message`] and [`clock`] are "Matching and the clock condition" and request 4,
-//! [`report`] is what the program prints, [`merge`] is request 6, [`list`] and [`chain`] are request 7, and
-//! [`statistics`] is request 8. Request 3 asks for speed alone.
+//! [`levels`] is request 1, [`message`] and [`clock`] are "Matching and the clock condition" and requests 4
+//! and 9, [`report`] is what the program prints, [`merge`] is request 6, [`list`] and [`chain`] are request
+//! 7, and [`statistics`] is request 8. Request 3 asks for speed alone.
 
 #![forbid(unsafe_code)]
 
@@ -43,6 +43,8 @@ pub const MAX_LATENCY: u32 = 1_000_000;
 pub const MAX_BYTES: usize = 65_536;
 /// The most listed records, and the number of lent times.
 pub const MAX_RECORDS: usize = 2_048;
+/// The highest share of a gap that can be kept, in thousandths: all of it.
+pub const MAX_SHARE: u32 = 1_000;
 /// The highest time, in microseconds; the lowest is its negative.
 pub const MAX_TIME: i64 = 999_999_999_999_999;
 
@@ -81,12 +83,14 @@ pub struct Asked {
     pub trace: i64,
     /// Whether statistics records are compared: 0 off, 1 on.
     pub statistics: u32,
+    /// How many thousandths are kept of the gap between a record and the one before it on its processor.
+    pub share: u32,
 }
 
 impl Asked {
     /// A choice, and nothing else is asked for.
     pub const fn choice_alone(choice: u32) -> Asked {
-        Asked { choice, levels: 0, picl: 0, user: 0, trace: 0, statistics: 0 }
+        Asked { choice, levels: 0, picl: 0, user: 0, trace: 0, statistics: 0, share: 0 }
     }
 
     pub const fn expecting(choice: u32, Levels { picl, user, trace }: Levels) -> Asked {
@@ -97,9 +101,14 @@ impl Asked {
         Asked { statistics: 1, ..Asked::choice_alone(choice) }
     }
 
-    /// What the numbers say; none if one of them is refusal 1.
+    /// The same, and such a share of every gap is kept.
+    pub const fn keeping(self, share: u32) -> Asked {
+        Asked { share, ..self }
+    }
+
+    /// What the numbers say; none if one of them is refusal 1. The share is none of these: it is refusal 2.
     fn heard(self) -> Option<Heard> {
-        let Asked { choice, levels, picl, user, trace, statistics } = self;
+        let Asked { choice, levels, picl, user, trace, statistics, share: _ } = self;
         let expected = is_on(levels)?.then_some(Levels { picl, user, trace });
         Some(Heard { choice: Choice::numbered(choice)?, expected, compared: is_on(statistics)? })
     }
@@ -180,6 +189,7 @@ pub struct Solved {
     pub records: Vec<trace::Record>,
     pub passed: u64,
     pub messages: message::Messages,
+    pub floors: Vec<clock::Floor>,
     pub settled: clock::Settled,
 }
 
@@ -187,8 +197,8 @@ pub struct Solved {
 pub fn solve(question: Question, times: usize) -> Result<Solved, Refusal> {
     let Question { trace, latencies, asked } = question;
     let Heard { choice, expected, compared } = asked.heard().ok_or(Refusal::of_all(refusal::ASKED))?;
-    if latencies.len() != LATENCIES || times != MAX_RECORDS {
-        return Err(Refusal::of_all(refusal::LENGTH));
+    if latencies.len() != LATENCIES || times != MAX_RECORDS || asked.share > MAX_SHARE {
+        return Err(Refusal::of_all(refusal::SIZE));
     }
     if latencies.iter().any(|&latency| latency > MAX_LATENCY) {
         return Err(Refusal::of_all(refusal::LATENCY));
@@ -202,14 +212,14 @@ pub fn solve(question: Question, times: usize) -> Result<Solved, Refusal> {
         statistics::check(&records)?;
     }
     let messages = message::pair(&records)?;
-    let settled = clock::settle(&records, &messages.send_of, latencies);
-    let settled = settled.ok_or(Refusal::of_all(refusal::NO_TIMES))?;
-    Ok(Solved { records, passed, messages, settled })
+    let floors = clock::floors(&records, &messages.send_of, latencies, asked.share);
+    let settled = clock::settle(&floors).ok_or(Refusal::of_all(refusal::NO_TIMES))?;
+    Ok(Solved { records, passed, messages, floors, settled })
 }
 
 fn accept(call: Inputs) -> Result<Answer, Refusal> {
     let Inputs { trace, latencies, asked, times, wanted, room } = call;
-    let Solved { records, passed, messages, settled } =
+    let Solved { records, passed, messages, settled, .. } =
         solve(Question { trace, latencies, asked }, times.len())?;
     let message::Messages { matched, unreceived, .. } = messages;
     let clock::Settled { times: corrected, rounds } = settled;

@@ -48,7 +48,7 @@ pub fn messages(question: Question, list: &mut [Ends]) -> Filled {
 pub fn chain(question: Question, place: u64, list: &mut [u64]) -> Filled {
     Filled::of(solve(question, MAX_RECORDS).and_then(|solved| {
         let asked = listed(&solved, place).ok_or(Refusal::of_all(NO_RECORD))?;
-        fill(list, &chain_of(question.latencies, &solved, asked))
+        fill(list, &chain_of(&solved, asked))
     }))
 }
 
@@ -67,8 +67,8 @@ fn listed(solved: &Solved, place: u64) -> Option<usize> {
 
 /// The chain of a record of an accepted trace: of few records by trying all ways, else by looking near it
 /// first.
-fn chain_of(latencies: &[u32], solved: &Solved, asked: usize) -> Vec<u64> {
-    let moved = Moved::of(solved, latencies);
+fn chain_of(solved: &Solved, asked: usize) -> Vec<u64> {
+    let moved = Moved::of(solved);
     let chain = match solved.records.len() {
         ..=FEW => moved.of_all(asked),
         _ => moved.nearest(asked, IN_ORDER),

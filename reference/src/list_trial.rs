@@ -130,7 +130,7 @@ const SHOWN_MESSAGES: [(&str, ShowsMessages); 5] = [
 /// Whether the chain of a record shows something.
 type ShowsChain = fn(&Moved, &[usize]) -> bool;
 
-const SHOWN_CHAINS: [(&str, ShowsChain); 9] = [
+const SHOWN_CHAINS: [(&str, ShowsChain); 11] = [
     ("unmoved", |_, chain| chain.len() == 1),
     ("unmoved, held", |moved, chain| {
         chain.len() == 1 && IN_ORDER.iter().any(|&step| goes(moved, chain[0], step))
@@ -141,9 +141,12 @@ const SHOWN_CHAINS: [(&str, ShowsChain); 9] = [
     ("a tie", has_tie),
     ("processor longer", |moved, chain| !leads_along(moved, chain, IN_ORDER)),
     ("send longer", |moved, chain| !leads_along(moved, chain, SEND_FIRST)),
+    ("over a gap", goes_over_gap),
+    ("a tie over a gap", |moved, chain| goes_over_gap(moved, chain) && has_tie(moved, chain)),
     ("to itself", |moved, chain| {
         let is_both = |step: &[usize]| {
-            moved.floors[step[0]].before == Some(step[1]) && moved.tight(step[0], Step::Send) == Some(step[1])
+            let is_before = moved.step(step[0], Step::Processor).is_some_and(|(before, _)| before == step[1]);
+            is_before && moved.tight(step[0], Step::Send) == Some(step[1])
         };
         chain.windows(2).any(is_both)
     }),
@@ -154,6 +157,15 @@ const SEND_FIRST: [Step; 2] = [Step::Send, Step::Processor];
 /// Whether a record is where it is by this step.
 fn goes(moved: &Moved, place: usize, step: Step) -> bool {
     moved.tight(place, step).is_some()
+}
+
+/// Whether a chain has a step to a record before of which a gap is kept.
+fn goes_over_gap(moved: &Moved, chain: &[usize]) -> bool {
+    let is_gap = |step: &[usize]| {
+        let waits = moved.step(step[0], Step::Processor).is_some_and(|(_, kept)| kept > 0);
+        waits && moved.tight(step[0], Step::Processor) == Some(step[1])
+    };
+    chain.windows(2).any(is_gap)
 }
 
 /// Whether another chain has as few steps, so that their order decides.
@@ -226,7 +238,7 @@ impl Tally {
                 *self.shown.entry(name).or_default() += 1;
             }
         }
-        let moved = Moved::of(solved, &inquiry.latencies);
+        let moved = Moved::of(solved);
         let filled = expected.chains.iter().zip(&inquiry.chains).filter(|(filled, _)| filled.number == 0);
         for chain in filled.filter_map(|(_, link)| moved.nearest(link.place as usize, IN_ORDER)) {
             for (name, _) in SHOWN_CHAINS.into_iter().filter(|(_, shows)| shows(&moved, &chain)) {

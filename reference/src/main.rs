@@ -1,11 +1,12 @@
 //! The program: `cantuvesh-reference CHOICE TRACE TABLE [WRITTEN]`.
 //!
-//! No tracing levels are expected, and no statistics compared: they are off. Prints the report, or "cannot
-//! read". A file named for the written trace is made only where the trace is accepted.
+//! No tracing levels are expected, no statistics compared and no gaps kept: they are off, and the share is 0.
+//! Prints the report, or "cannot read". A file named for the written trace is made only where the trace is
+//! accepted.
 
 #![forbid(unsafe_code)]
 
-use reference::refusal::{ASKED, LENGTH};
+use reference::refusal::{ASKED, SIZE};
 use reference::report::{CANNOT_READ, report};
 use reference::{Answer, Asked, Inputs, LATENCIES, MAX_BYTES, MAX_RECORDS, judge};
 use std::env;
@@ -28,7 +29,7 @@ fn main() -> ExitCode {
         return ExitCode::SUCCESS;
     };
     if table.len() != 4 * LATENCIES {
-        print!("{}", refused(LENGTH));
+        print!("{}", refused(SIZE));
         return ExitCode::SUCCESS;
     }
     let latencies: Vec<u32> = table

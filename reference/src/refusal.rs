@@ -1,7 +1,8 @@
 //! Document 01's "Numbers a caller gets back", with 17, 18, 19, 22 and the column of document 02.
 
 pub const ASKED: u64 = 1;
-pub const LENGTH: u64 = 2;
+/// A length, or the share.
+pub const SIZE: u64 = 2;
 pub const LATENCY: u64 = 3;
 pub const BYTES: u64 = 4;
 pub const FORM: u64 = 5;

@@ -6,7 +6,7 @@ use crate::generator::Case;
 use crate::generator::stroke::{self, LONGEST_START};
 use crate::lent::{Lent, pattern};
 use crate::line::{Role, Subject};
-use crate::{Answer, Choice, Inputs, form, message, refusal, trace};
+use crate::{Answer, Asked, Choice, Inputs, Question, form, message, refusal, solve, trace};
 use std::collections::BTreeMap;
 use std::fmt;
 
@@ -99,6 +99,12 @@ pub fn has_statistics(trace: &[u8]) -> bool {
     trace::read(trace, Choice::Lenient).is_ok_and(|listing| listing.records.iter().any(tells))
 }
 
+/// The times that a case's trace comes to if this is asked.
+fn times_of(case: &Case, asked: Asked) -> Option<Vec<i64>> {
+    let question = Question { trace: &case.trace, latencies: &case.latencies, asked };
+    Some(solve(question, case.times).ok()?.settled.times)
+}
+
 /// How often each number and each verdict came up, and how often each kind of trace.
 #[derive(Clone, Debug, Default, PartialEq, Eq)]
 pub struct Tally {
@@ -108,6 +114,10 @@ pub struct Tally {
     pub levels_met: u64,
     /// Accepted traces with statistics that were compared.
     pub statistics_met: u64,
+    /// Accepted traces with a time that is later by the gaps that are kept.
+    pub gaps_kept: u64,
+    /// Traces that would have times if no gap were kept.
+    pub gaps_refused: u64,
     /// Accepted traces with a message that was begun, or that finished later.
     pub nonblocking: u64,
     /// Accepted traces with a receive that took fewer bytes than were sent.
@@ -132,6 +142,7 @@ impl Tally {
         self.levels_met += u64::from(answer.listed > 0 && case.asked.levels == 1);
         let compared = answer.number == 0 && case.asked.statistics == 1;
         self.statistics_met += u64::from(compared && has_statistics(&case.trace));
+        self.count_gaps(case, answer);
         let blocking = |events: (i64, i64)| matches!(events, (-21, -51 | -52));
         let all_block = |case: &Case| events_of_messages(&case.trace).into_iter().all(blocking);
         self.nonblocking += u64::from(answer.matched > 0 && !all_block(case));
@@ -142,6 +153,15 @@ impl Tally {
             *self.columns.entry(meant).or_default() += 1;
         }
         *self.kinds.entry(case.kind).or_default() += 1;
+    }
+
+    fn count_gaps(&mut self, case: &Case, answer: &Answer) {
+        if case.asked.share > 0 && matches!(answer.number, 0 | refusal::NO_TIMES) {
+            let times = times_of(case, case.asked);
+            let differs = times != times_of(case, case.asked.keeping(0));
+            self.gaps_kept += u64::from(differs && times.is_some());
+            self.gaps_refused += u64::from(differs && times.is_none());
+        }
     }
 
     /// The numbers that judging gives, and how often each came up.
@@ -164,9 +184,11 @@ impl Tally {
             (format!("number {number}"), times, floor)
         });
         let verdicts = (1..=3).map(|verdict| (format!("verdict {verdict}"), self.verdicts[verdict], 500));
-        let kinds_of_accepted = [
+        let kinds_of_traces = [
             ("levels met", self.levels_met),
             ("statistics met", self.statistics_met),
+            ("gaps kept", self.gaps_kept),
+            ("gaps refused", self.gaps_refused),
             ("nonblocking messages", self.nonblocking),
             ("short receives", self.short_receives),
         ]
@@ -175,7 +197,7 @@ impl Tally {
         let good_or_nearly = [("quick", self.quick), ("one byte off", self.one_byte_off)]
             .map(|(name, times)| (name.to_string(), times, 20_000));
         let columns = self.columns().map(|(meant, times)| (format!("column of {meant}"), times, 50));
-        below_floor(numbers.chain(verdicts).chain(kinds_of_accepted).chain(good_or_nearly).chain(columns))
+        below_floor(numbers.chain(verdicts).chain(kinds_of_traces).chain(good_or_nearly).chain(columns))
     }
 }
 
@@ -200,6 +222,8 @@ impl fmt::Display for Tally {
         }
         writeln!(out, "levels met     {:>8}", self.levels_met)?;
         writeln!(out, "statistics met {:>8}", self.statistics_met)?;
+        writeln!(out, "gaps kept      {:>8}", self.gaps_kept)?;
+        writeln!(out, "gaps refused   {:>8}", self.gaps_refused)?;
         writeln!(out, "nonblocking    {:>8}", self.nonblocking)?;
         writeln!(out, "short receives {:>8}", self.short_receives)?;
         writeln!(out, "quick          {:>8}", self.quick)?;

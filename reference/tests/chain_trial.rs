@@ -24,13 +24,13 @@ struct Seen<'a> {
 type Rule = fn(&Seen, usize) -> Option<Vec<usize>>;
 
 /// Lists another chain, but refuses as it is right.
-fn by(rule: Rule) -> impl Fn(Question, u64, &mut [u64]) -> Filled {
+fn by(rule: impl Fn(&Seen, usize) -> Option<Vec<usize>>) -> impl Fn(Question, u64, &mut [u64]) -> Filled {
     move |question, place, list| {
         let solved = match solve(question, MAX_RECORDS) {
             Ok(solved) if place < solved.records.len() as u64 => solved,
             _ => return list::chain(question, place, list),
         };
-        let moved = Moved::of(&solved, question.latencies);
+        let moved = Moved::of(&solved);
         let seen = Seen { solved: &solved, latencies: question.latencies, moved };
         let Some(chain) = rule(&seen, place as usize) else { return list::chain(question, place, list) };
         match list.get_mut(..chain.len()) {
@@ -163,7 +163,8 @@ fn other_steps_are_found() {
             let mut chain = vec![asked];
             while !seen.moved.is_at_original(chain[chain.len() - 1]) {
                 let here = chain[chain.len() - 1];
-                let cause = seen.moved.floors[here].before.or(seen.moved.tight(here, Step::Send))?;
+                let before = seen.moved.step(here, Step::Processor).map(|(before, _)| before);
+                let cause = before.or(seen.moved.tight(here, Step::Send))?;
                 chain.push(cause);
             }
             Some(chain)
@@ -190,7 +191,10 @@ fn other_steps_are_found() {
             })
         }),
         ("the record before in the file", |seen, asked| {
-            nearest_with(seen, asked, |place, own| Floor { before: place.checked_sub(1), ..*own })
+            nearest_with(seen, asked, |place, own| Floor {
+                before: place.checked_sub(1).map(|before| (before, 0)),
+                ..*own
+            })
         }),
         ("up to the first send", |seen, asked| {
             let mut chain = right(seen, asked)?;
@@ -209,6 +213,34 @@ fn other_steps_are_found() {
     ];
     for (name, rule) in wrong {
         assert!(found(by(rule)), "{name}");
+    }
+}
+
+/// What is waited over a gap by another rule, of what is kept and of the whole; none if no step goes there.
+type Kept = fn(i64, i64) -> Option<i64>;
+
+#[test]
+fn other_gaps_are_found() {
+    let by_gaps = |waited: Kept| {
+        by(move |seen, asked| {
+            nearest_with(seen, asked, |_, own| {
+                let before = own.before.and_then(|(before, kept)| {
+                    let whole = own.original - seen.moved.floors[before].original;
+                    Some((before, waited(kept, whole)?))
+                });
+                Floor { before, ..*own }
+            })
+        })
+    };
+    assert!(lister_passes(list::messages, by_gaps(|kept, _| Some(kept))));
+    let wrong: [(&str, Kept); 4] = [
+        ("the same time alone", |_, _| Some(0)),
+        ("never over a gap", |kept, _| (kept == 0).then_some(0)),
+        ("the whole gap", |_, whole| Some(whole)),
+        ("never over a whole gap", |kept, whole| (kept < whole || kept == 0).then_some(kept)),
+    ];
+    for (name, waited) in wrong {
+        assert!(found(by_gaps(waited)), "{name}");
     }
 }
 

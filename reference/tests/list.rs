@@ -288,7 +288,7 @@ fn the_longest_lists() {
 fn accepted(inquiries: u64) -> impl Iterator<Item = Moved> {
     (0..inquiries).map(Inquiry::from_seed).filter_map(|inquiry| {
         let solved = solve(inquiry.question(), MAX_RECORDS).ok()?;
-        Some(Moved::of(&solved, &inquiry.latencies))
+        Some(Moved::of(&solved))
     })
 }
 
@@ -309,7 +309,7 @@ fn both_ways_come_to_the_same_chain() {
 /// What the request says of every chain, but for which one of several it is.
 #[test]
 fn what_is_true_of_every_chain() {
-    let mut longest = 0;
+    let (mut longest, mut gaps) = (0, 0);
     for moved in accepted(3_000) {
         for place in 0..moved.times.len().min(100) {
             let chain = moved.nearest(place, IN_ORDER).unwrap();
@@ -320,7 +320,9 @@ fn what_is_true_of_every_chain() {
                 assert!(!moved.is_at_original(step[0]));
                 let tight = |kind: &Step| moved.tight(step[0], *kind) == Some(step[1]);
                 let kind = IN_ORDER.into_iter().find(tight).unwrap();
-                waited += moved.step(step[0], kind).unwrap().1;
+                let (_, wait) = moved.step(step[0], kind).unwrap();
+                waited += wait;
+                gaps += usize::from(kind == Step::Processor && wait > 0);
             }
             let last = chain[chain.len() - 1];
             assert!(moved.is_at_original(last));
@@ -331,5 +333,5 @@ fn what_is_true_of_every_chain() {
             assert_eq!(once.len(), chain.len());
         }
     }
-    assert!(longest > 20, "{longest}");
+    assert!(longest > 20 && gaps > 1_000, "{longest} {gaps}");
 }

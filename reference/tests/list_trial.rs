@@ -9,8 +9,8 @@ use reference::line::Role;
 use reference::list::{self, Ends, Filled};
 use reference::list_trial::{Tally, Trial};
 use reference::refusal::{
-    ASKED, BYTES, FORM, LATENCY, LENGTH, LEVELS, LONG_RECEIVE, NO_RECORD, NO_TIMES, RECORDS, ROOM,
-    STATISTICS, UNMATCHED,
+    ASKED, BYTES, FORM, LATENCY, LEVELS, LONG_RECEIVE, NO_RECORD, NO_TIMES, RECORDS, ROOM, SIZE, STATISTICS,
+    UNMATCHED,
 };
 use reference::{MAX_RECORDS, Question, Solved, solve};
 use std::collections::BTreeSet;
@@ -163,7 +163,7 @@ fn other_answers_are_found() {
     assert!(found_after(|answer| Filled { filled: 0, ..answer }));
     assert!(found_after(|answer| Filled { filled: answer.filled.saturating_sub(1), ..answer }));
     assert!(found_after(|answer| Filled { filled: answer.filled.min(255), ..answer }));
-    for number in [0, ASKED, LENGTH, LATENCY, BYTES, NO_TIMES, ROOM] {
+    for number in [0, ASKED, SIZE, LATENCY, BYTES, NO_TIMES, ROOM] {
         let of = |answer: Filled| u64::from(answer.number == number);
         assert!(found_after(|answer| Filled { line: answer.line + of(answer), ..answer }), "{number}");
         assert!(found_after(|answer| Filled { column: answer.column + of(answer), ..answer }), "{number}");
@@ -205,7 +205,7 @@ fn other_refusals_are_found() {
 #[test]
 fn lists_touched_by_a_refusal_are_found() {
     let numbers =
-        [ASKED, LENGTH, LATENCY, BYTES, FORM, RECORDS, UNMATCHED, LONG_RECEIVE, NO_TIMES, LEVELS, ROOM];
+        [ASKED, SIZE, LATENCY, BYTES, FORM, RECORDS, UNMATCHED, LONG_RECEIVE, NO_TIMES, LEVELS, ROOM];
     for number in numbers {
         assert!(
             messages_are_found(|question, list| {
@@ -315,7 +315,7 @@ fn too_few_inquiries_are_told() {
     let chains = numbers(&[NO_RECORD, ROOM]);
     let mut tally = Tally { messages, chains, ..Tally::default() };
     let shown = tally.too_seldom();
-    assert_eq!(shown.len(), 16);
+    assert_eq!(shown.len(), 18);
     assert_eq!(shown[0], "no message came up 0 times, 1000 are asked");
     tally.messages.insert(0, 9_999);
     tally.messages.insert(BYTES, 19);

@@ -2,13 +2,13 @@
 
 mod common;
 
-use common::{found_among, found_in};
+use common::{found_among, found_in, settled, tried};
 use reference::generator::{Case, flat_table};
 use reference::line::Role;
-use reference::refusal::{LEVELS, LONG_RECEIVE, NO_TIMES, RECORDS, STATISTICS, UNMATCHED};
+use reference::refusal::{LEVELS, LONG_RECEIVE, RECORDS, STATISTICS, UNMATCHED};
 use reference::trial::{Call, Tally, events_of_messages};
 use reference::{
-    Answer, Asked, Choice, Inputs, MAX_RECORDS, PROCESSORS, clock, deciding, judge, message, trace,
+    Answer, Asked, Choice, Inputs, MAX_RECORDS, PROCESSORS, Question, clock, deciding, judge, solve, trace,
 };
 use std::collections::{BTreeMap, BTreeSet, HashMap, VecDeque};
 
@@ -256,7 +256,7 @@ fn counting(before: impl Fn(&Seen, &Seen) -> bool) -> impl Fn(Inputs) -> Answer 
         if answer.number != 0 {
             return answer;
         }
-        let Inputs { trace, latencies, times, .. } = call;
+        let Inputs { trace, latencies, asked, times, .. } = call;
         let records = trace::read(trace, Choice::Lenient).unwrap().records;
         let mut send_of = vec![None; records.len()];
         for (sends, receives) in channels(&records, trace).values() {
@@ -265,13 +265,8 @@ fn counting(before: impl Fn(&Seen, &Seen) -> bool) -> impl Fn(Inputs) -> Answer 
                 send_of[one.place] = Some(sends[count]);
             }
         }
-        match clock::settle(&records, &send_of, latencies) {
-            Some(clock::Settled { times: settled, rounds }) => {
-                times[..settled.len()].copy_from_slice(&settled);
-                Answer { rounds, ..answer }
-            }
-            None => Answer { number: NO_TIMES, ..Answer::default() },
-        }
+        let floors = clock::floors(&records, &send_of, latencies, asked.share);
+        settled(answer, &floors, times)
     }
 }
 
@@ -454,12 +449,6 @@ impl Rule {
     }
 }
 
-/// The right answer, without anything being written to what is lent.
-fn tried(call: Inputs) -> Answer {
-    let (mut times, mut room) = (call.times.to_vec(), call.room.to_vec());
-    judge(Inputs { times: &mut times, room: &mut room, ..call })
-}
-
 /// Judges as the reference does, but for when 17 is given.
 fn by_rule(rule: Rule) -> impl Fn(Inputs) -> Answer {
     move |mut call| {
@@ -541,21 +530,14 @@ fn one_pass(mut call: Inputs) -> Answer {
     if answer.number != 0 {
         return answer;
     }
-    let Inputs { trace, latencies, times, .. } = call;
-    let records = trace::read(trace, Choice::Lenient).unwrap().records;
-    let send_of = message::pair(&records).unwrap().send_of;
-    for (time, record) in times.iter_mut().zip(&records) {
-        *time = record.time;
+    let Inputs { trace, latencies, asked, times, .. } = call;
+    let floors = solve(Question { trace, latencies, asked }, MAX_RECORDS).unwrap().floors;
+    for (time, floor) in times.iter_mut().zip(&floors) {
+        *time = floor.original;
     }
-    let mut last = [i64::MIN; PROCESSORS];
-    for (place, record) in records.iter().enumerate() {
-        let mut time = record.time.max(last[record.processor]);
-        if let Some(send) = send_of[place] {
-            let entry = PROCESSORS * records[send].processor + record.processor;
-            time = time.max(times[send] + i64::from(latencies[entry]));
-        }
-        times[place] = time;
-        last[record.processor] = time;
+    for (place, floor) in floors.iter().enumerate() {
+        let causes = floor.before.into_iter().chain(floor.send);
+        times[place] = causes.map(|(cause, wait)| times[cause] + wait).fold(floor.original, i64::max);
     }
     answer
 }
@@ -579,7 +561,7 @@ fn nothing_comes_up_too_seldom() {
 #[test]
 fn too_few_good_or_nearly_good_traces_are_told() {
     let often = Tally { numbers: [500; 20], verdicts: [500; 4], levels_met: 500, ..Tally::default() };
-    let often = Tally { statistics_met: 500, ..often };
+    let often = Tally { statistics_met: 500, gaps_kept: 500, gaps_refused: 500, ..often };
     let enough =
         Tally { nonblocking: 500, short_receives: 500, quick: 20_000, one_byte_off: 20_000, ..often };
     let columns: BTreeMap<String, u64> = deciding::all().into_iter().map(|meant| (meant, 50)).collect();
@@ -591,6 +573,10 @@ fn too_few_good_or_nearly_good_traces_are_told() {
     assert_eq!(
         seldom_nineteen.too_seldom(),
         ["number 19 came up 499 times, 500 are asked", "statistics met came up 0 times, 500 are asked"]
+    );
+    assert_eq!(
+        Tally { gaps_kept: 499, gaps_refused: 3, ..enough.clone() }.too_seldom(),
+        ["gaps kept came up 499 times, 500 are asked", "gaps refused came up 3 times, 500 are asked"]
     );
     assert_eq!(
         Tally { quick: 19_999, one_byte_off: 0, ..enough.clone() }.too_seldom(),

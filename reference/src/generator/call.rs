@@ -2,6 +2,7 @@
 
 use super::Case;
 use super::random::Random;
+use super::share;
 use crate::{LATENCIES, MAX_BYTES, MAX_LATENCY, MAX_RECORDS};
 
 /// Choices that are none.
@@ -36,8 +37,8 @@ pub fn room_about(needed: usize, other: usize, random: &mut Random) -> usize {
     }
 }
 
-/// Now and then a wrong choice or switch, a slice of the wrong length, a latency above the limit, or
-/// several of them at once.
+/// Now and then a wrong choice or switch, a slice of the wrong length, a share or a latency above the limit,
+/// or several of them at once.
 pub fn spoil(case: &mut Case, random: &mut Random) {
     let often = if random.chance(10) { 20 } else { 1 };
     if random.chance(often) {
@@ -58,6 +59,9 @@ pub fn spoil(case: &mut Case, random: &mut Random) {
     }
     if random.chance(often) {
         case.times = random.pick(&[0, 1, MAX_RECORDS - 1, MAX_RECORDS + 1, 2 * MAX_RECORDS, LATENCIES]);
+    }
+    if random.chance(often) {
+        case.asked.share = share::wrong(random);
     }
     if random.chance(often) && !case.latencies.is_empty() {
         let any = random.place(case.latencies.len());

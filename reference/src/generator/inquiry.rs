@@ -4,7 +4,7 @@ use super::random::Random;
 use super::record::{Record, trace_of};
 use super::shape::{any_chain, any_ring, chain, many_types};
 use super::workload::ROW;
-use super::{Case, Draft, call, damage, draft, flat_table, level, statistic, web};
+use super::{Case, Draft, call, damage, draft, flat_table, level, share, statistic, web};
 use crate::chain::{IN_ORDER, Moved};
 use crate::list::ends;
 use crate::{Asked, MAX_RECORDS, Question, Solved, solve};
@@ -41,10 +41,12 @@ const SLOW: usize = 200;
 impl Inquiry {
     pub fn from_seed(seed: u64) -> Inquiry {
         let mut random = Random::new(seed);
-        let Draft { kind, trace, latencies } = any_draft(&mut random);
+        let share = share::any(&mut random);
+        let Draft { kind, trace, latencies } = any_draft(&mut random, share);
         let choice = if random.chance(20) { 1 } else { 2 };
         let (asked, trace) = level::asked(&mut random, choice, trace);
         let (asked, trace) = statistic::asked(&mut random, asked, trace);
+        let asked = asked.keeping(share);
         let offset = random.below(16) as usize;
         // No times are lent, and nothing is written.
         let times = MAX_RECORDS;
@@ -53,7 +55,7 @@ impl Inquiry {
         let Case { trace, latencies, asked, .. } = case;
         let question = Question { trace: &trace, latencies: &latencies, asked };
         let (messages, chains) = match solve(question, MAX_RECORDS) {
-            Ok(solved) => of_accepted(&mut random, &solved, &latencies),
+            Ok(solved) => of_accepted(&mut random, &solved),
             Err(_) => of_refused(&mut random),
         };
         Inquiry { seed, kind, trace, latencies, asked, messages, chains, offset }
@@ -64,9 +66,10 @@ impl Inquiry {
     }
 }
 
-fn any_draft(random: &mut Random) -> Draft {
+fn any_draft(random: &mut Random, share: u32) -> Draft {
     match random.below(200) {
-        0..110 => web::any(random),
+        0..100 => web::any(random, share),
+        100..110 => share::handed_on(random),
         110..120 => any_chain(random),
         120..130 => any_ring(random),
         130..140 => damage::in_messages(random),
@@ -100,9 +103,9 @@ fn of_refused(random: &mut Random) -> (usize, Vec<Link>) {
 }
 
 /// Lists about as long as they have to be, of all records or some, and of places behind the last.
-fn of_accepted(random: &mut Random, solved: &Solved, latencies: &[u32]) -> (usize, Vec<Link>) {
+fn of_accepted(random: &mut Random, solved: &Solved) -> (usize, Vec<Link>) {
     let messages = about(random, ends(solved).len());
-    let moved = Moved::of(solved, latencies);
+    let moved = Moved::of(solved);
     let records = moved.times.len();
     let places: Vec<usize> = if records <= ALL {
         (0..records).collect()

@@ -5,10 +5,10 @@
 //! spoils them, [`stroke`] by one byte alone, [`fault`] spoils chosen fields of one line, [`near`] and
 //! [`soup`] put lines together from good and bad parts, [`limit`] goes to the ends of every size and
 //! number, [`level`] expects tracing levels and marks them, [`statistic`] tells what the records before say,
-//! or nearly that, and [`call`] is the rest of a call. [`pair`]
-//! makes two traces of them, to be merged, and [`inquiry`] asks for messages and chains, often of a [`web`]
-//! of messages in which times have many causes. The benchmark's traces are in [`workload`], and stay as
-//! they are.
+//! or nearly that, [`share`] chooses a share and makes gaps that it matters for, and [`call`] is the rest of a
+//! call. [`pair`] makes two traces of them, to be merged, and [`inquiry`] asks for messages and chains, often of
+//! a [`web`] of messages in which times have many causes. The benchmark's traces are in [`workload`], and stay
+//! as they are.
 
 mod call;
 mod damage;
@@ -23,6 +23,7 @@ pub mod random;
 pub mod record;
 mod run;
 pub mod shape;
+mod share;
 mod soup;
 mod statistic;
 pub mod stroke;
@@ -67,7 +68,7 @@ impl Case {
             kind,
             trace,
             latencies,
-            asked,
+            asked: asked.keeping(share::any(&mut random)),
             times: MAX_RECORDS,
             wanted: random.chance(50),
             room: 0,
@@ -95,7 +96,8 @@ impl Case {
 
 fn draft(random: &mut Random) -> Draft {
     match random.below(1000) {
-        0..170 => run::skewed(random),
+        0..140 => run::skewed(random),
+        140..170 => share::handed_on(random),
         210..235 => run::at_the_end_of_time(random),
         235..255 => limit::times(random),
         255..280 => shape::any_chain(random),

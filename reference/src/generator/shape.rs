@@ -23,6 +23,16 @@ pub fn chain(records: usize, processors: usize) -> Vec<Record> {
         .collect()
 }
 
+/// Each record so much later than the one before it on its processor, the first of which is at time 0.
+pub fn spread(records: &mut [Record], gap: i64) {
+    let mut shown = [0; PROCESSORS];
+    for record in records {
+        let clock = &mut shown[record.processor as usize];
+        record.time = *clock;
+        *clock += gap;
+    }
+}
+
 /// Processors in a row exchange messages with both neighbours, step after step, under true clocks.
 pub fn neighbours(records: usize, processors: usize, latency: i64) -> Vec<Record> {
     let last = processors as i64 - 1;
@@ -80,6 +90,7 @@ pub(super) fn any_chain(random: &mut Random) -> Draft {
     if !records.len().is_multiple_of(2) && random.chance(70) {
         records.pop();
     }
+    spread(&mut records, random.pick(&[0, 0, 1, 3, 1_000]));
     if random.chance(40) {
         records.sort_by_key(|record| -record.processor);
     }

@@ -5,6 +5,7 @@ use super::random::Random;
 use super::record::{Record, any_unlisted, trace_of};
 use super::run::in_file_order;
 use super::{Draft, flat_table};
+use crate::clock::kept;
 use crate::{LATENCIES, PROCESSORS};
 use std::array;
 use std::collections::VecDeque;
@@ -12,13 +13,13 @@ use std::collections::VecDeque;
 /// So much are some clocks ahead of the others.
 const AHEAD: i64 = 10;
 
-pub fn any(random: &mut Random) -> Draft {
+pub fn any(random: &mut Random, share: u32) -> Draft {
     let latencies = match random.below(4) {
         0 | 1 => flat_table(0),
         2 => flat_table(random.up_to(3)),
         _ => (0..LATENCIES).map(|_| random.up_to(2)).collect(),
     };
-    let records = if random.chance(25) { two_ways(random, &latencies) } else { records(random) };
+    let records = if random.chance(25) { two_ways(random, &latencies, share) } else { records(random) };
     let mut filed = in_file_order(random, records);
     if random.chance(20) {
         for _ in 0..=random.below(3) {
@@ -38,7 +39,7 @@ fn records(random: &mut Random) -> Vec<Record> {
         5..9 => random.between(10, 30),
         _ => random.between(20, 120),
     };
-    let step = random.pick(&[0, 0, 0, 1, 3]);
+    let step = random.pick(&[0, 0, 0, 1, 3, 3, 7]);
     let mut shown = [0; PROCESSORS];
     for clock in &mut shown[..processors as usize] {
         *clock = random.pick(&[0, 0, 0, AHEAD, AHEAD - 1]);
@@ -65,9 +66,9 @@ fn records(random: &mut Random) -> Vec<Record> {
     records.collect()
 }
 
-/// A receive that is as late as it is by two ways, the one over its processor and the other over its send,
-/// which are as long or nearly so.
-fn two_ways(random: &mut Random, latencies: &[u32]) -> Vec<Record> {
+/// A receive that is as late as it is by two ways, the one over its processor and the gaps that are kept there,
+/// and the other over its send, which are as long or nearly so.
+fn two_ways(random: &mut Random, latencies: &[u32], share: u32) -> Vec<Record> {
     let mut left: Vec<i64> = (0..PROCESSORS as i64).collect();
     let [here, one, other, between] = array::from_fn(|_| left.swap_remove(random.place(left.len())));
     let latency = |from: i64, to: i64| i64::from(latencies[PROCESSORS * from as usize + to as usize]);
@@ -75,16 +76,22 @@ fn two_ways(random: &mut Random, latencies: &[u32]) -> Vec<Record> {
     let locals = random.place(5);
     let any = random.place(5);
     let others = random.pick(&[locals.saturating_sub(1), locals.saturating_sub(1), locals, any]);
-    let at = |processor| move |_| Record::local(0, 0, 0, processor);
+    let at = |processor, gap| move |place: usize| Record::local(0, 0, gap * place as i64, processor);
+
+    // The receive is so late by its own clock that it is moved all the same.
+    let gap = random.pick(&[0, 3, 7]);
+    let last = gap * (locals as i64 + 1);
+    let kept = kept(share, gap) * (locals as i64 + 1);
+    let sent = AHEAD + last;
 
     let mut records =
-        vec![Record::send(-21, AHEAD + by_send, one, 8, 1, here), Record::receive(-52, 0, here, 8, 1, one)];
-    records.extend((0..locals).map(at(here)));
-    records.push(Record::send(-21, AHEAD + latency(one, here), other, 8, 1, between));
+        vec![Record::send(-21, sent + by_send, one, 8, 1, here), Record::receive(-52, 0, here, 8, 1, one)];
+    records.extend((1..=locals).map(at(here, gap)));
+    records.push(Record::send(-21, sent + kept + latency(one, here), other, 8, 1, between));
     records.push(Record::receive(-52, 0, between, 8, 1, other));
-    records.extend((0..others).map(at(between)));
+    records.extend((0..others).map(at(between, 0)));
     records.push(Record::send(-21, 0, between, 8, 1, here));
-    records.push(Record::receive(-52, 0, here, 8, 1, between));
-    records.extend((0..random.place(3)).map(at(here)));
+    records.push(Record::receive(-52, last, here, 8, 1, between));
+    records.extend((0..random.place(3)).map(|_| Record::local(0, 0, last, here)));
     records
 }

@@ -2,7 +2,7 @@
 
 use super::flat_table;
 use super::record::{Data, Record, joined, trace_of};
-use super::shape::{chain, clocks_off, many_types, neighbours};
+use super::shape::{chain, clocks_off, many_types, neighbours, spread};
 use crate::levels::Levels;
 use crate::statistics::Sums;
 use crate::{Asked, MAX_BYTES, MAX_RECORDS};
@@ -51,6 +51,10 @@ pub fn all() -> Vec<Workload> {
         of("a hundred negative types on one pair", trace_of(&many_types(MAX_RECORDS, -100..0)), 5),
         of("a bad last line", bad_last_line(sound), LATENCY),
         Workload { asked: Asked::comparing(2), ..of("2,048 records, a tenth statistics", told(), 0) },
+        Workload {
+            asked: asked.keeping(500),
+            ..of("a chain of gaps, half of each kept", chain_with_gaps(), 1)
+        },
     ]
 }
 
@@ -80,6 +84,14 @@ pub fn lists() -> [Workload; 2] {
 
 /// The records of that chain: one more than its steps.
 const LINKS: usize = 2_001;
+
+/// A message handed on by processors whose records are ten microseconds apart: it takes so long to come round to
+/// one of them again that nearly all records are later than they were shown, and by all the gaps before them.
+fn chain_with_gaps() -> Vec<u8> {
+    let mut records = chain(MAX_RECORDS, ROW);
+    spread(&mut records, 10);
+    trace_of(&records)
+}
 
 /// Half of the row on either node, as many records as it may have.
 fn neighbours_on_two_nodes() -> [Vec<u8>; 2] {

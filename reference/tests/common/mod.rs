@@ -1,6 +1,7 @@
 //! What the tests share: a judge with everything lent as it should be, the sample traces, and how judges that
 //! are wrong are found out.
 
+use reference::clock::{self, Floor, Settled};
 use reference::generator::inquiry::Inquiry;
 use reference::generator::pair::Pair;
 use reference::generator::{Case, flat_table};
@@ -8,6 +9,7 @@ use reference::line::{self, Line};
 use reference::list::{self, Ends, Filled};
 use reference::list_trial::Trial;
 use reference::merge::{Merged, merge};
+use reference::refusal::NO_TIMES;
 use reference::trial::{Call, difference};
 use reference::{Answer, Asked, Choice, Inputs, MAX_BYTES, MAX_RECORDS, Question, judge, merge_trial};
 
@@ -109,6 +111,25 @@ pub fn written(trace: impl AsRef<[u8]>, latency: u32) -> Vec<u8> {
 #[allow(dead_code)]
 pub fn first_lines(trace: &str, count: usize) -> String {
     trace.split_inclusive('\n').take(count).collect()
+}
+
+/// The right answer, without anything being written to what is lent.
+#[allow(dead_code)]
+pub fn tried(call: Inputs) -> Answer {
+    let (mut times, mut room) = (call.times.to_vec(), call.room.to_vec());
+    judge(Inputs { times: &mut times, room: &mut room, ..call })
+}
+
+/// The answer that was right, with what these floors come to instead.
+#[allow(dead_code)]
+pub fn settled(answer: Answer, floors: &[Floor], times: &mut [i64]) -> Answer {
+    match clock::settle(floors) {
+        Some(Settled { times: settled, rounds }) => {
+            times[..settled.len()].copy_from_slice(&settled);
+            Answer { rounds, ..answer }
+        }
+        None => Answer { number: NO_TIMES, ..Answer::default() },
+    }
 }
 
 /// Whether one of the first so many cases finds a judge out.
