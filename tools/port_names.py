@@ -22,7 +22,7 @@ NAME = r"[a-z][A-Za-z0-9_'′-]*"
 DEFINED = re.compile(r"^\s*(?:(?:pub|abbrev|unfoldable)\s+)*(" + NAME + r"(?:\s+" + NAME + r")*)\s*(?:\{[^}:]*\}\s*)?:(?!:)", re.M)
 LET = re.compile(r"\blet\s+(" + NAME + r")\s*[:=]")
 WORD = re.compile(r"(?<![A-Za-z0-9_'′-])" + NAME + r"(?![A-Za-z0-9_'′-])")
-IMPORT = re.compile(r"^(?:ghost )?use ([^{;]*)\.\{([^}]*)\}", re.M)
+IMPORT = re.compile(r"^(?:ghost )?use ([^{;\n]*)\.\{([^}]*)\}", re.M)
 
 # Laws that stand in one file with a definition whose name is theirs in snake case.
 LAWS = """at-most begun-at by-parts chain-in code-of exact-at goes-on in-line in-place is-below is-listed last-of last-on latency-at line-count

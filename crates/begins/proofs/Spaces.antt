@@ -9,7 +9,7 @@ use native.Mathlib.Nat.{zero-add, add-suc}
 use borrow.Author.Tests.{lt-ltb, le-ltb}
 use lib.ListN.{length, drop, length-drop}
 use lib.Seq.{take-length, drop-drop}
-use Rattle.bytes.specs.Bytes.{index_of, slice}
+use Rattle.octets.specs.Octets.{index_of}
 use Rattle.paper.specs.Line.{after, goes_on, fields_above}
 use Rattle.paper.specs.Columns.{column_of}
 use Rattle.begins.specs.Begins.{NotThere, Begins}
@@ -30,10 +30,9 @@ reached l k zero at h n = record { is = h.count; column = h.column; inside = h.i
 reached l k (suc left) at h n = absurd (omega arith)
 
 -- a turn, with a field left to step over
-module _ (l : List ℕ) (k left at : ℕ) (h : Left l k left at) (some_left : 0 < left) (end : ℕ) (found : end ≡ at + index_of 32 (slice at (length l) l)) where
+module _ (l : List ℕ) (k left at : ℕ) (h : Left l k left at) (some_left : 0 < left) (end : ℕ) (found : end ≡ at + index_of 32 (drop at l)) where
   place : end ≡ at + index_of 32 (drop at l)
-  unfolding slice
-  place = rw take-length at found
+  place = found
 
   -- the line ends with the field
   module _ (e : end ≡ length l) where

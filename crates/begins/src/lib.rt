@@ -16,7 +16,7 @@ pub fn begin_of(l: &[u8], k: usize) -> Begin
     let mut left = k;
     let mut at = 0;
     while 0 < left {
-        let end = bytes::scan::find(l, at, l.len(), 32);
+        let end = octets::find(l, at, 32);
         if end == l.len() {
             return Begin::Missing;
         }

@@ -8,7 +8,7 @@
 // case needs no proof.
 ghost use Rattle.std.specs.Prelude.{◌≡◌, ◌≤◌, length};
 
-use bytes::scan::find;
+use octets::find;
 use libc::STDOUT_FILENO;
 use showing::Shows;
 
@@ -86,7 +86,7 @@ fn write(name: &[u8], head: &[u8], text: &[u8], end: &[u8]) {
 fn cases(list: &[u8]) {
     let mut at = 0;
     while at < list.len() {
-        let end = find(list, at, list.len(), b'\n');
+        let end = find(list, at, b'\n');
         case(&list[at..end]);
         at = end + 1;
     }
@@ -197,7 +197,7 @@ fn merge_lines(line: &[u8]) {
 fn part(line: &[u8], at: usize, stop: u8) -> &[u8]
     requires { at ≤ length line.now }
 {
-    let end = find(line, at, line.len(), stop);
+    let end = find(line, at, stop);
     &line[at..end]
 }
 
@@ -205,7 +205,7 @@ fn next(line: &[u8], at: usize, stop: u8) -> usize
     requires { at ≤ length line.now }
     ensures { result ≤ length line.now }
 {
-    let end = find(line, at, line.len(), stop);
+    let end = find(line, at, stop);
     if end < line.len() {
         return end + 1;
     }

@@ -2,7 +2,7 @@
 -- number of its records, and a place that is n is no place.
 use Rattle.std.specs.Prelude.{ℕ, zero, suc, ◌+◌, ◌≤◌, ◌<◌, ◌≡◌, Bool, true, false, cond, List, length, get_or, take, ltb}
 use Rattle.std.proofs.Math.Option
-use Rattle.paper.specs.Matching.{Key, countIf, isReceiveOf, sendPlace, sendOf}
+use Rattle.paper.specs.Matching.{Key, count_if, is_receive_of, send_place, send_of}
 use Rattle.paper.specs.declared.Entry.{Entry}
 use Rattle.store.specs.Layout.{too_many, entries_in}
 use Rattle.side.specs.Sides.{side_at, sends_in, receives_in}
@@ -53,7 +53,7 @@ Backed l link i = (j b : ℕ) → j < i → receive_in l b j ≡ true → Last (
 
 -- the entries before place i have their sends
 abbrev pub Placed : List ℕ → ℕ → List ℕ → ℕ → Type 0
-Placed l n sends i = (j : ℕ) → j < i → get_or sends j 0 ≡ Option.get_or (sendOf (entries_in l n) j) n
+Placed l n sends i = (j : ℕ) → j < i → get_or sends j 0 ≡ Option.get_or (send_of (entries_in l n) j) n
 
 -- all that holds where the entries before place i are done
 pub record Placing (l : List ℕ) (n : ℕ) (sends link heads seen : List ℕ) (i : ℕ) : Type 0 where
@@ -94,4 +94,4 @@ pub record Ready (l : List ℕ) (sends link : List ℕ) (b head from : ℕ) : Ty
 
 -- the place of the send that a receive under the key belongs to, if it stands at place i
 unfoldable pub send_under_at : List Entry → Key → ℕ → ℕ
-send_under_at es key i = Option.get_or (sendPlace key (countIf (isReceiveOf key) (take i es)) es) (length es)
+send_under_at es key i = Option.get_or (send_place key (count_if (is_receive_of key) (take i es)) es) (length es)

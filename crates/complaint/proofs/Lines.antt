@@ -7,7 +7,7 @@ use native.Mathlib.Omega.{arith}
 use lib.ListN.{length, take}
 use lib.Dec.{leb}
 use borrow.Author.Tests.{leb-true, ne_eqb}
-use Rattle.bytes.specs.Bytes.{index_of, index_after}
+use Rattle.octets.specs.Octets.{index_of, index_after}
 use Rattle.paper.specs.Text.{bytes_of}
 use Rattle.named.specs.Values.{written}
 use Rattle.flags.specs.Plan.{bad, missing}
@@ -26,7 +26,7 @@ visible_high b = go (leb 33 b) (leb b 126) refl
     go false t e = omega arith
 
 ends_there : (word : List ℕ) → index_of 10 (all_visible word ++ (10 ∷ [])) ≡ length (all_visible word)
-unfolding index_of index_after all_visible
+unfolding index_of all_visible
 ends_there [] = refl
 ends_there (b ∷ word) = let high = visible_high b in rw (ne_eqb (visible b) 10 (λ e. omega arith)) (ap suc (ends_there word))
 
@@ -35,11 +35,11 @@ ends_long [] = refl
 ends_long (b ∷ text) = ap suc (ends_long text)
 
 pub bad_line : (word : List ℕ) → suc (index_of 10 (complaint_of (bad word))) ≡ length (complaint_of (bad word))
-unfolding complaint_of line_of word_shown bytes_of index_of index_after
+unfolding complaint_of line_of word_shown bytes_of index_of
 bad_line word = rw (ends_there (take 200 word), ends_long (all_visible (take 200 word)))
 
 pub missing_line : (name : Name) → suc (index_of 10 (complaint_of (missing name))) ≡ length (complaint_of (missing name))
-unfolding complaint_of line_of written bytes_of index_of index_after
+unfolding complaint_of line_of written bytes_of index_of
 missing_line Choice = refl
 missing_line Trace = refl
 missing_line Table = refl

@@ -11,7 +11,7 @@ fn put_word(room: &mut [u8], at: usize, word: &[u8]) -> usize
     requires { at + length word.now ≤ length room.old }
     ensures { Put room.old at word.now result room.new }
 {
-    let n = bytes::copy(word, &mut room[at..]);
+    let n = octets::copy(word, &mut room[at..]);
     at + n
 }
 

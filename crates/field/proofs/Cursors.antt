@@ -12,7 +12,7 @@ use lib.Dec.{ltb}
 use lib.IntN.{ℤ, pos}
 use native.Mathlib.Nat.{add-suc}
 use borrow.Author.Tests.{lt-ltb, le-ltb, ltb-true, ltb-false}
-use Rattle.bytes.specs.Bytes.{index_of, slice}
+use Rattle.octets.specs.Octets.{index_of}
 use Rattle.paper.specs.Line.{field, after, goes_on, rest, First, nothing, first, first_of}
 use Rattle.paper.specs.declared.Field.{Field}
 use Rattle.paper.specs.declared.Field.TheVariants.{Good, Bad}
@@ -35,12 +35,11 @@ pub at_start : (l : List ℕ) → rest_at l 0 ≡ some l
 at_start l = inside l 0 (omega arith)
 
 -- the bytes from the cursor on, as the search for a space takes them
-pub searched : (l : List ℕ) (at : ℕ) → slice at (length l) l ≡ drop at l
-unfolding slice
-searched l at = rw take-length
+pub searched : (l : List ℕ) (at : ℕ) → drop at l ≡ drop at l
+searched l at = refl
 
 -- a field that starts at the cursor and ends where the search for a space ended
-module _ (l : List ℕ) (at end : ℕ) (low : at ≤ length l) (found : end ≡ at + index_of 32 (slice at (length l) l)) where
+module _ (l : List ℕ) (at end : ℕ) (low : at ≤ length l) (found : end ≡ at + index_of 32 (drop at l)) where
   ends : end ≡ at + index_of 32 (drop at l)
   ends = rw searched at found
 

@@ -59,7 +59,7 @@ pub fn value_at(l: &[u8], at: usize, form: Form) -> Got
     if l.len() < at {
         return Got::Nothing;
     }
-    let end = bytes::scan::find(l, at, l.len(), 32);
+    let end = octets::find(l, at, 32);
     match read_as(form, &l[at..end]) {
         Field::Good(v) => Got::Value(v, end + 1),
         Field::Bad => Got::Nothing,

@@ -3,7 +3,7 @@ use Prim.Native.String.{String}
 use mathlib.Core.Path.{◌≡◌, refl}
 use mathlib.Core.Option.{none, some}
 use lib.IntN.{pos, negsuc}
-use Rattle.bytes.specs.Bytes.{index_of, index_after}
+use Rattle.octets.specs.Octets.{index_of, index_after}
 use Rattle.paper.specs.Text.{bytes_of, is_same}
 use Rattle.paper.specs.Forms.{is_digit, digits_from, unled, has_minus, signed, at_most}
 use Rattle.forms.specs.Sizes.{whole_part}
@@ -42,7 +42,7 @@ pub plan_sample : (asks "--levels -1,0,7 --table t --statistics on --share 500 -
     × (asks "--choice strict --trace a --table t --levels off --out o" ≡ missing Statistics)
     × (asks "--choice strict --trace a --table t --levels off --statistics off --out o" ≡ missing Share)
     × (asks "" ≡ missing Choice)
-unfolding asks before words_of up_to behind is_same written name_of forgotten choice_of expected three_of levels_of is_good switch_of share_by share_of good_for no_values value_of with_value is_given accepts taken asked_of needed concluded on_pair plan_from plan_of bytes_of index_of index_after is_digit digits_from unled has_minus signed at_most whole_part numeral_of size_of natural_by natural_in
+unfolding asks before words_of up_to behind is_same written name_of forgotten choice_of expected three_of levels_of is_good switch_of share_by share_of good_for no_values value_of with_value is_given accepts taken asked_of needed concluded on_pair plan_from plan_of bytes_of index_of is_digit digits_from unled has_minus signed at_most whole_part numeral_of size_of natural_by natural_in
 plan_sample = (refl, refl, refl, refl, refl, refl, refl, refl, refl, refl, refl, refl, refl, refl, refl, refl, refl, refl, refl, refl, refl, refl, refl)
 
 -- the largest share is itself; every number above it is one that is refused, and the largest number that 64 bits hold does not wrap

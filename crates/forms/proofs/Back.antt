@@ -43,9 +43,9 @@ places_of (suc most) n h = go (leb (10 ^ suc most) n) refl (places_of most n)
 
 -- ---- digits, read back
 
-is_digit : (n : ℕ) → is_digit (n % 10 + 48) ≡ true
+is_digit_lem : (n : ℕ) → is_digit (n % 10 + 48) ≡ true
 unfolding is_digit
-is_digit n = rw (le-leb 48 (n % 10 + 48) (omega arith), le-leb (n % 10 + 48) 57 (omega arith))
+is_digit_lem n = rw (le-leb 48 (n % 10 + 48) (omega arith), le-leb (n % 10 + 48) 57 (omega arith))
 
 sum : (v p n : ℕ) → (v * p + n / 10) * 10 + (n % 10 + 48 - 48) ≡ v * (p * 10) + n
 sum v p n = omega (arith, mul_assoc v p 10)
@@ -54,7 +54,7 @@ digits_back : (k v n : ℕ) → n < 10 ^ k → digits_from v (fixed k n) ≡ som
 unfolding fixed digits_from onward
 digits_back zero v n h = ap some (omega arith)
 digits_back (suc k) v n h =
-    rw (joined v (fixed k (n / 10)) ((n % 10 + 48) ∷ []), digits_back k v (n / 10) (omega (arith, pow-suc 10 k)), is_digit n, pow-suc 10 k, ← sum v (10 ^ k) n)
+    rw (joined v (fixed k (n / 10)) ((n % 10 + 48) ∷ []), digits_back k v (n / 10) (omega (arith, pow-suc 10 k)), is_digit_lem n, pow-suc 10 k, ← sum v (10 ^ k) n)
 
 before_last : (k n : ℕ) → get_or (fixed (suc (suc k)) n) 0 0 ≡ get_or (fixed (suc k) (n / 10)) 0 0
 unfolding fixed

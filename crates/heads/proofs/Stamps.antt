@@ -7,7 +7,7 @@ use mathlib.Core.Option.{some}
 use lib.ListN.{length, take, drop, drop_of_length-le}
 use lib.IntN.{ℤ, pos}
 use borrow.Author.Tests.{le-leb, lt-leb}
-use Rattle.bytes.specs.Bytes.{index_of, slice}
+use Rattle.octets.specs.Octets.{index_of}
 use Rattle.paper.specs.Forms.{time_of, behind_sign, has_minus, time_size, unled, signed}
 use Rattle.paper.specs.Line.{field, after, rest, nothing, first, first_of}
 use Rattle.paper.specs.Merging.{stamp_of}
@@ -66,7 +66,7 @@ module _ (s : List ℕ) (at : ℕ) where
       let none : drop at s ≡ [] = drop_of_length-le s h in
       record { from = refl; to = sym (end_far s at (rw none (omega arith))); time = rw none }
 
-  module _ (end : ℕ) (found : (end ≡ at + index_of 10 (slice at (length s) s)) × (end ≤ length s)) {time : ℤ} (stamped : time ≡ stamp_of (take (end - at) (drop at s)))
+  module _ (end : ℕ) (found : (end ≡ at + index_of 10 (drop at s)) × (end ≤ length s)) {time : ℤ} (stamped : time ≡ stamp_of (take (end - at) (drop at s)))
       {t : ℤ} (same : t ≡ time) where
     its_stamp : t ≡ stamp_of (line_at s at)
     its_stamp = same ∙ (rw (line_here s at end found.0) at stamped)

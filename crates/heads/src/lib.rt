@@ -36,7 +36,7 @@ pub fn head_at(s: &[u8], at: usize) -> Head
             time: 0,
         };
     }
-    let end = bytes::scan::find(s, at, s.len(), 10);
+    let end = octets::find(s, at, 10);
     let time = stamp(&s[at..end]);
     if end == s.len() {
         return Head {

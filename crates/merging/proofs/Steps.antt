@@ -9,7 +9,7 @@ use lib.Seq.{sets, take_all, length-take-le}
 use lib.Signed.{le_z}
 use borrow.Author.Tests.{le-leb, leb-true}
 use lib.Dec.{leb}
-use Rattle.bytes.specs.Bytes.{index_of}
+use Rattle.octets.specs.Octets.{index_of}
 use Rattle.paper.specs.Reading.{lines_of}
 use Rattle.paper.specs.Merging.{stamp_of, merged_lines, bytes_in, merged_bytes}
 use Rattle.reading.specs.Joined.{AllEnded}

@@ -33,7 +33,7 @@ fn put(room: &mut [u8], at: usize, word: &[u8])
     requires { at + length word.now ≤ length room.old }
     ensures { room.new ≡ sets room.old at word.now }
 {
-    bytes::copy(word, &mut room[at..]);
+    octets::copy(word, &mut room[at..]);
 }
 
 // The chosen line to its place: behind as many bytes as both traces have before their heads.

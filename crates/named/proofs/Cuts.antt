@@ -7,14 +7,14 @@ use native.Mathlib.Omega.{arith}
 use lib.ListN.{length, take, drop, drop_of_length-le}
 use lib.Seq.{take-length, take-nil, drop-nil, drop-length, drop-drop}
 use lib.Dec.{eqb}
-use Rattle.bytes.specs.Bytes.{index_of, index_after, slice}
+use Rattle.octets.specs.Octets.{index_of, index_after}
 use Rattle.named.specs.Words.{before, words_of, up_to, behind}
 use Rattle.named.specs.Parts.{cut, WordAt}
 
 -- ---- the first word
 
 words_on : (separator b : ℕ) (line : List ℕ) → words_of separator (b ∷ line) ≡ up_to separator (b ∷ line) ∷ words_of separator (behind separator (b ∷ line))
-unfolding before words_of up_to behind index_after index_of
+unfolding before words_of up_to behind index_of
 words_on separator b [] = go (eqb b separator)
   where
     go : (t : Bool) → cond t ([] ∷ []) ((b ∷ []) ∷ []) ≡ take (index_after t 0) (b ∷ []) ∷ words_of separator (drop (suc (index_after t 0)) (b ∷ []))
@@ -39,12 +39,11 @@ first_word separator (b ∷ line) h = words_on separator b line
 
 -- ---- a word found by its separator
 
-pub word_here : (separator : ℕ) (line : List ℕ) (at to : ℕ) → to ≡ at + index_of separator (slice at (length line) line) → to ≤ length line
+pub word_here : (separator : ℕ) (line : List ℕ) (at to : ℕ) → to ≡ at + index_of separator (drop at line) → to ≤ length line
     → WordAt separator line at (record { from = at; to = to })
 unfolding cut up_to behind
 word_here separator line at to found inside =
-    let whole : slice at (length line) line ≡ drop at line = unfold slice in rw take-length in
-    let e : to ≡ at + index_of separator (drop at line) = rw whole at found in
+    let e = found in
     let many : to - at ≡ index_of separator (drop at line) = omega arith in
     let next : to + 1 ≡ at + suc (index_of separator (drop at line)) = omega arith in
     record {

@@ -10,7 +10,7 @@ use lib.Seq.{take_all}
 use lib.IntN.{ℤ}
 use lib.Dec.{eqb}
 use borrow.Author.Tests.{lt-ltb, le-ltb, eq-eqb, ne_eqb}
-use Rattle.bytes.specs.Bytes.{index_of}
+use Rattle.octets.specs.Octets.{index_of}
 use Rattle.paper.specs.Text.{bytes_of, is_same}
 use Rattle.paper.specs.Forms.{has_minus, unled, signed, at_most}
 use Rattle.forms.specs.Sizes.{whole_part}

@@ -1,7 +1,7 @@
 -- The words of a line of arguments: a word ends at the separator or at the end of the line, and an empty rest is no word. A byte is its
 -- number.
 use Rattle.std.specs.Prelude.{ℕ, suc, cond, List, [], ◌∷◌, take, drop, eqb}
-use Rattle.bytes.specs.Bytes.{index_of}
+use Rattle.octets.specs.Octets.{index_of}
 
 -- the words with one byte more in front of the first
 unfoldable pub before : ℕ → List (List ℕ) → List (List ℕ)

@@ -11,6 +11,6 @@ pub fn word_at(line: &[u8], separator: u8, at: usize) -> Span
     if end <= at {
         return Span { from: end, to: end };
     }
-    let to = bytes::scan::find(line, at, end, separator);
+    let to = octets::find(line, at, separator);
     Span { from: at, to: to }
 }

@@ -1,6 +1,6 @@
 -- The fifth change request: where a call is refused. "Refusals 5 to 10 carry that column, counted from 1. .. Other refusals carry 0."
 use Rattle.std.specs.Prelude.{ℕ, zero, suc, ◌+◌, List, cond, length}
-use Rattle.bytes.specs.Bytes.{index_of}
+use Rattle.octets.specs.Octets.{index_of}
 use Rattle.paper.specs.Line.{after, goes_on}
 use Rattle.paper.specs.declared.Site.{Site}
 use Rattle.paper.specs.declared.Spot.{Spot}

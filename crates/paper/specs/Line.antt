@@ -3,7 +3,7 @@
 use Rattle.std.specs.Prelude.{ℕ, zero, suc, List, [], ◌∷◌, Bool, true, false, cond, ◌&&◌, length, take, drop, ℤ, pos, nat_abs, ltb, leb, eqb}
 use Rattle.std.proofs.Math.Option.{Option, none, some, map}
 use Rattle.std.specs.Int.Signed.{le_z}
-use Rattle.bytes.specs.Bytes.{index_of}
+use Rattle.octets.specs.Octets.{index_of}
 use Rattle.paper.specs.Tests.{eq_z, up_to, minus, one_of}
 use Rattle.paper.specs.Forms.{whole_of, time_of, times_quoted, numbers_quoted}
 use Rattle.paper.specs.Events.{listed_kind, is_statistics, standing_for, send_events, receive_events}

@@ -11,7 +11,7 @@ use lib.ListN.{length, take, drop, length-append, length-drop}
 use lib.Seq.{take-append-add, take-length}
 use lib.IntN.{ℤ, pos}
 use borrow.Author.Tests.{le-ltb}
-use Rattle.bytes.specs.Bytes.{index_of, index_after}
+use Rattle.octets.specs.Octets.{index_of, index_after}
 use Rattle.paper.specs.Text.{is_same}
 use Rattle.paper.specs.Forms.{whole_of, time_of, text_of, times_quoted, numbers_quoted}
 use Rattle.paper.specs.Line.{field, rest, goes_on, first, first_of}
@@ -69,7 +69,7 @@ text_clean text space end =
     }
 
 pub form_clean : (form : Form) → Clean (read_as form)
-unfolding read_as times_quoted numbers_quoted index_of index_after
+unfolding read_as times_quoted numbers_quoted index_of
 form_clean Whole = whole_clean
 form_clean Time = time_clean
 form_clean TimesQuoted = text_clean _ refl refl
@@ -86,7 +86,7 @@ module _ (form : List ℕ → Field) (clean : Clean form) (s : List ℕ) (at : �
     no_space = clean.no_space t.word v t.reads
 
     index_on : index_of 10 (drop at s) ≡ length t.word + suc (index_of 10 (drop next s))
-    unfolding index_of index_after
+    unfolding index_of
     index_on = rw t.is (index_past 10 t.word (32 ∷ drop next s) (clean.no_end t.word v t.reads))
 
     line_on : line_at s at ≡ t.word ++ (32 ∷ line_at s next)
@@ -104,7 +104,7 @@ module _ (form : List ℕ → Field) (clean : Clean form) (s : List ℕ) (at : �
 
   module _ (t : Stands form s at v 10 next) where
     index_end : index_of 10 (drop at s) ≡ length t.word + 0
-    unfolding index_of index_after
+    unfolding index_of
     index_end = rw t.is (index_past 10 t.word (10 ∷ drop next s) (clean.no_end t.word v t.reads))
 
     line_end : line_at s at ≡ t.word

@@ -7,7 +7,7 @@ use native.Mathlib.Omega.{arith}
 use lib.ListN.{length, drop}
 use lib.Seq.{length-take-le}
 use lib.IntN.{ℤ}
-use Rattle.bytes.specs.Bytes.{index_of}
+use Rattle.octets.specs.Octets.{index_of}
 use Rattle.paper.specs.Line.{six}
 use Rattle.paper.specs.declared.Data.{Data}
 use Rattle.paper.specs.declared.Values.TheVariants.{Good}

@@ -10,7 +10,7 @@ use lib.ListN.{length, take, drop, length-append}
 use lib.Seq.{take-append_seam}
 use lib.Dec.{eqb}
 use borrow.Author.Tests.{lt-ltb, ltb-true, eq-eqb, ne_eqb, eqb-true, eqb-false}
-use Rattle.bytes.specs.Bytes.{index_of, index_after}
+use Rattle.octets.specs.Octets.{index_of, index_after}
 use Rattle.paper.specs.Line.{field, after, goes_on, rest}
 use Rattle.forms.specs.Free.{Free}
 
@@ -18,7 +18,7 @@ use Rattle.forms.specs.Free.{Free}
 
 -- it is within the bytes, or their end
 pub index_within : (b : ℕ) (l : List ℕ) → index_of b l ≤ length l
-unfolding index_of index_after
+unfolding index_of
 index_within b [] = omega arith
 index_within b (x ∷ l) = go (eqb x b) (index_within b l)
   where
@@ -28,12 +28,12 @@ index_within b (x ∷ l) = go (eqb x b) (index_within b l)
 
 -- after bytes that are free of it
 pub index_past : (b : ℕ) (f r : List ℕ) → Free b f → index_of b (f ++ r) ≡ length f + index_of b r
-unfolding index_of Free index_after
+unfolding index_of Free
 index_past b [] r h = sym (zero-add (index_of b r))
 index_past b (x ∷ f) r h = rw (ne_eqb x b h.0, index_past b f r h.1) (omega arith)
 
 index_free : (b : ℕ) (f r : List ℕ) → Free b f → index_of b (f ++ (b ∷ r)) ≡ length f
-unfolding index_of index_after
+unfolding index_of
 index_free b f r h = index_past b f (b ∷ r) h ∙ rw (eq-eqb b b refl) (add-zero (length f))
 
 -- there is none before it

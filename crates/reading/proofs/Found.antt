@@ -10,7 +10,7 @@ use lib.ListN.{length, take, drop, length-drop}
 use lib.Seq.{take-length, take_all, drop-drop, length-take-le}
 use lib.Dec.{ltb}
 use borrow.Author.Tests.{ltb-true, ltb-false}
-use Rattle.bytes.specs.Bytes.{index_of, slice}
+use Rattle.octets.specs.Octets.{index_of}
 use Rattle.paper.specs.Reading.{unended, ended, lines_of}
 use Rattle.reading.specs.Places.{line_at, next_line}
 use Rattle.reading.specs.Joined.{AllEnded}
@@ -45,9 +45,9 @@ near_ended s at some_left all = go (ltb (index_of 10 (drop at s)) (length (drop 
         let some : 0 < length (drop at s) = omega (arith, long) in
         absurd (rw (no_line (drop at s) some none) at all)
 
-module _ (s : List ℕ) (at end : ℕ) (found : end ≡ at + index_of 10 (slice at (length s) s)) where
+module _ (s : List ℕ) (at end : ℕ) (found : end ≡ at + index_of 10 (drop at s)) where
   pub found_at : end ≡ at + index_of 10 (drop at s)
-  found_at = let e : slice at (length s) s ≡ drop at s = unfold slice in rw take-length in rw e at found
+  found_at = found
 
   -- no LF up to the end
   pub unended_here : at < length s → end ≡ length s → lines_of (drop at s) ≡ unended (take (end - at) (drop at s))

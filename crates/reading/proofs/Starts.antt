@@ -10,7 +10,7 @@ use lib.Seq.{drop-drop}
 use lib.Dec.{eqb}
 use borrow.Author.Tests.{eqb-true}
 use Rattle.forms.proofs.Tests.{never}
-use Rattle.bytes.specs.Bytes.{index_of, index_after}
+use Rattle.octets.specs.Octets.{index_of, index_after}
 use Rattle.paper.specs.Reading.{Lines, done, unended, ended, before, lines_of}
 use Rattle.paper.specs.Statistics.{line_in}
 use Rattle.reading.specs.Places.{line_at}
@@ -101,7 +101,7 @@ first_in b (unended m) = refl
 first_in b (ended m y) = refl
 
 first_line : (s : List ℕ) → line_in (lines_of s) 0 ≡ take (index_of 10 s) s
-unfolding lines_of line_in index_of index_after
+unfolding lines_of line_in index_of
 first_line [] = refl
 first_line (b ∷ s) = go (eqb b 10) (first_line s)
   where

@@ -9,7 +9,7 @@ use lib.ListN.{length, take, drop, get_or, drop_of_length-le}
 use lib.Seq.{drop-cons, drop-drop, take-length}
 use lib.Dec.{eqb}
 use borrow.Author.Tests.{eq-eqb, ne_eqb, not-true, not-false}
-use Rattle.bytes.specs.Bytes.{index_of, index_after, slice}
+use Rattle.octets.specs.Octets.{index_of, index_after}
 use Rattle.rule.specs.Words.{is_blank, uncommented, trimmed, word, behind}
 use Rattle.rule.specs.Cursor.{Starts, Ends}
 
@@ -25,10 +25,9 @@ before_comment (b ∷ l) = go (before_comment l) (eqb b 35)
     go later false = ap (◌∷◌ b) later
 
 -- as the search for the comment tells it
-pub uncommented_is : (l : List ℕ) (end : ℕ) → end ≡ 0 + index_of 35 (slice 0 (length l) l) → take (end - 0) l ≡ uncommented l
+pub uncommented_is : (l : List ℕ) (end : ℕ) → end ≡ 0 + index_of 35 l → take (end - 0) l ≡ uncommented l
 uncommented_is l end found =
-    let whole : slice 0 (length l) l ≡ l = unfold slice in rw take-length in
-    let e : end - 0 ≡ index_of 35 l = omega (arith, rw whole at found) in
+    let e : end - 0 ≡ index_of 35 l = omega arith in
     rw e (before_comment l)
 
 -- ---- a blank

@@ -35,7 +35,7 @@ pub enum Meaning {
 pub fn read_line(line: &[u8]) -> Meaning
     ensures { result ≡ meaning_of line.now }
 {
-    let end = bytes::scan::find(line, 0, line.len(), b'#');
+    let end = octets::find(line, 0, b'#');
     read_words(&line[0..end])
 }
 

@@ -15,7 +15,7 @@ use Rattle.paper.specs.Matching.{sends_under, receives_under, count_if, send_pla
 use Rattle.paper.specs.Clock.{next, same, within_limit, settled_from, settle}
 use Rattle.paper.specs.Answer.{judge, reach, conclude, refused, choice_of, heard, most, longest, right_sizes, low_latencies, verdict_of, accepted, written, on_written, on_settled, on_matched, on_statistics, on_levels, on_read, on_choice}
 use Rattle.paper.specs.Merging.{stamp_of, merged_lines, bytes_in, merged_bytes}
-use Rattle.bytes.specs.Bytes.{index_of}
+use Rattle.octets.specs.Octets.{index_of}
 use Rattle.paper.specs.Text.{bytes_of, is_same}
 use Rattle.report.specs.Report.{shown, named, numbered, verdict_shown, accepted_shown, refused_shown, report_of}
 use Rattle.samples.specs.Samples.{samples, Hold}

@@ -13,7 +13,7 @@ use Rattle.paper.specs.Gaps.{gap_of}
 use Rattle.paper.specs.Matching.{sends_under, receives_under, count_if, send_place, send_for, entry_at, send_of, length_sent, call_of, call_for, matched_from, matched_of, is_send, is_receive, matched_count, unreceived_count, last_of, latency_for, gap_from, waits_of}
 use Rattle.paper.specs.Clock.{next, same, within_limit, settled_from, settle}
 use Rattle.paper.specs.Answer.{judge, reach, conclude, refused, choice_of, heard, most, longest, right_sizes, low_latencies, verdict_of, accepted, written, on_written, on_settled, on_matched, on_statistics, on_levels, on_read, on_choice}
-use Rattle.bytes.specs.Bytes.{index_of}
+use Rattle.octets.specs.Octets.{index_of}
 use Rattle.paper.specs.Text.{bytes_of}
 use Rattle.paper.specs.Filling.{most_lent, judged, untouched, filled_with, on_list, on_reached, fill}
 use Rattle.paper.specs.Messages.{message_at, messages_to, messages_of, messages}

@@ -8,7 +8,7 @@ use native.Mathlib.Omega.{arith}
 use lib.ListN.{length, drop, drop_of_length-le}
 use lib.Seq.{take-length, drop-drop, drop-nil, drop-length}
 use lib.IntN.{ℤ}
-use Rattle.bytes.specs.Bytes.{index_of, slice}
+use Rattle.octets.specs.Octets.{index_of}
 use Rattle.paper.specs.Line.{after}
 use Rattle.shown.specs.Writes.{shown_length}
 use Rattle.store.specs.Layout.{entry_from, start_from}
@@ -20,12 +20,11 @@ pub at_end : (s : List ℕ) (at : ℕ) → length s ≤ at → Place s (after (d
 unfolding after
 at_end s at h = record { inside = omega arith; from = drop-length s ∙ rw (drop_of_length-le s h) (sym (drop-nil (suc (index_of 32 [])))) }
 
-module _ (s : List ℕ) (at space : ℕ) (found : space ≡ at + index_of 32 (slice at (length s) s)) where
+module _ (s : List ℕ) (at space : ℕ) (found : space ≡ at + index_of 32 (drop at s)) where
   beyond : drop (space + 1) s ≡ after (drop at s)
   unfolding after
   beyond =
-      let same : slice at (length s) s ≡ drop at s = unfold slice in rw take-length in
-      rw (found, same, add-one, ← add-suc) (sym (drop-drop (suc (index_of 32 (drop at s))) at s))
+      rw (found, add-one, ← add-suc) (sym (drop-drop (suc (index_of 32 (drop at s))) at s))
 
   pub a_space : space ≤ length s → (space ≡ length s → ⊥) → Place s (after (drop at s)) (space + 1)
   a_space h g = record { inside = omega arith; from = beyond }

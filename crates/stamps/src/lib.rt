@@ -17,7 +17,7 @@ fn after_space(s: &[u8], at: usize) -> usize
     if s.len() <= at {
         return s.len();
     }
-    let space = bytes::scan::find(s, at, s.len(), 32);
+    let space = octets::find(s, at, 32);
     if space == s.len() {
         return space;
     }

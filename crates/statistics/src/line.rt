@@ -132,7 +132,7 @@ pub(crate) fn line_differs(
         if trace.len() < start {
             return false;
         }
-        let end = bytes::scan::find(trace, start, trace.len(), 10);
+        let end = octets::find(trace, start, 10);
         return bytes_differ(
             &trace[start..end],
             store,

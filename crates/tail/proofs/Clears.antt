@@ -9,7 +9,7 @@ use lib.ListN.{length, get_or}
 use lib.Seq.{drop-cons}
 use lib.Dec.{eqb}
 use borrow.Author.Tests.{ne_eqb, eqb-false}
-use Rattle.bytes.specs.Bytes.{index_of, index_after}
+use Rattle.octets.specs.Octets.{index_of, index_after}
 use Rattle.tail.specs.Ends.{Clear}
 
 pub clear_none : (s : List ℕ) (at : ℕ) → at ≤ length s → Clear s at at
@@ -19,7 +19,7 @@ pub clear_on : (s : List ℕ) {at i to : ℕ} → Clear s at i → Clear s i to 
 clear_on s a b = record { index = a.index ∙ b.index; low = omega (arith, a.low, b.low); high = b.high }
 
 pub clear_byte : (s : List ℕ) (i : ℕ) → i < length s → (get_or s i 0 ≡ 10 → ⊥) → Clear s i (i + 1)
-unfolding index_of index_after
+unfolding index_of
 clear_byte s i h e =
     record {
       index = rw (drop-cons s i 0 h, add-one, ne_eqb (get_or s i 0) 10 e) (omega arith);

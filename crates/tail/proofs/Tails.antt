@@ -7,7 +7,7 @@ use native.Mathlib.Omega.{arith}
 use lib.ListN.{length, get_or, take, drop, length-drop}
 use lib.Seq.{length-take-le}
 use borrow.Author.Tests.{lt-ltb}
-use Rattle.bytes.specs.Bytes.{index_of, slice}
+use Rattle.octets.specs.Octets.{index_of}
 use Rattle.paper.specs.Line.{good_end}
 use Rattle.reading.specs.Places.{line_at, next_line}
 use Rattle.reading.specs.Rests.{fields_from, end_from}
@@ -21,7 +21,7 @@ unfolding EndsAt fields_from end_from good_end
 ended_here s at zero e = record { is = refl; ends = refl; near = λ k. k }
 ended_here s at (suc n) e = absurd (omega arith)
 
-module _ (s : List ℕ) (at i end : ℕ) (clear : Clear s at i) (found : end ≡ i + index_of 10 (slice i (length s) s)) where
+module _ (s : List ℕ) (at i end : ℕ) (clear : Clear s at i) (found : end ≡ i + index_of 10 (drop i s)) where
   place : end ≡ at + index_of 10 (drop at s)
   place = found_at s i end found ∙ sym clear.index
 

@@ -1,6 +1,6 @@
 -- What the answer says of the end of the line in which the cursor stands, and what the inner functions tell each other.
 use Rattle.std.specs.Prelude.{ℕ, ◌+◌, ◌≤◌, ◌≡◌, List, Bool, true, length, drop}
-use Rattle.bytes.specs.Bytes.{index_of}
+use Rattle.octets.specs.Octets.{index_of}
 use Rattle.paper.specs.Line.{good_end}
 use Rattle.reading.specs.Rests.{fields_from, Ended}
 use Rattle.tail.specs.declared.Ends.{Ends}

@@ -62,7 +62,7 @@ fn some(s: &[u8], at: usize, n: usize) -> Ends
     if s[at] == 10 {
         return Ends::Doubt;
     }
-    let end = bytes::scan::find(s, skip(s, at), s.len(), 10);
+    let end = octets::find(s, skip(s, at), 10);
     if end == s.len() {
         return Ends::Doubt;
     }

@@ -8,7 +8,7 @@ use native.Mathlib.Omega.{arith}
 use lib.ListN.{length, take, drop, get_or, drop_of_length-le}
 use lib.Dec.{eqb}
 use borrow.Author.Tests.{eqb-true, eqb-false, ne_eqb, le-leb, not-true, not-false}
-use Rattle.bytes.specs.Bytes.{index_of, slice}
+use Rattle.octets.specs.Octets.{index_of}
 use Rattle.paper.specs.Reading.{Lines, done, unended, ended, lines_of}
 use Rattle.reading.proofs.Found.{found_at, unended_here, ended_here}
 use Rattle.rule.specs.Rule.{covers, over, meaning_of}
@@ -44,7 +44,7 @@ module _ {meaning : Meaning} {before : List ℕ} where
 
 -- ---- the first line from a place on, and those behind it
 
-module _ (text : List ℕ) (at end : ℕ) (some_left : at < length text) (found : end ≡ at + index_of 10 (slice at (length text) text)) (within : end ≤ length text) where
+module _ (text : List ℕ) (at end : ℕ) (some_left : at < length text) (found : end ≡ at + index_of 10 (drop at text)) (within : end ≤ length text) where
   none_behind : end ≡ length text → lines_of (drop (end + 1) text) ≡ done
   unfolding lines_of
   none_behind e = rw (drop_of_length-le text {i = end + 1} (omega arith))
@@ -104,7 +104,7 @@ module _ {text before now : List ℕ} {at n : ℕ} (going : Going text before no
         holds = λ z k m. rw over at (going.said k m);
       }
 
-  module _ {end : ℕ} (some_left : at < length text) (found : end ≡ at + index_of 10 (slice at (length text) text)) (within : end ≤ length text)
+  module _ {end : ℕ} (some_left : at < length text) (found : end ≡ at + index_of 10 (drop at text)) (within : end ≤ length text)
       {good : Bool} {after : List ℕ} (one : Said (meaning_of (take (end - at) (drop at text))) now good after) where
     pub line_bad : not good ≡ true → LinesRead text before n after
     unfolding line_in

@@ -29,7 +29,7 @@ pub(crate) fn read_lines(text: &[u8], latencies: &mut [u32]) -> usize
     let mut at: usize = 0;
     let mut n: usize = 1;
     while at < text.len() {
-        let end = bytes::scan::find(text, at, text.len(), 10);
+        let end = octets::find(text, at, 10);
         if !read_one(&text[at..end], latencies) {
             return n;
         }

@@ -10,7 +10,7 @@ use lib.Seq.{append_snoc, length-take-le}
 use lib.IntN.{ℤ, pos}
 use lib.Signed.{lt_z}
 use borrow.Author.Tests.{le-leb, lt-leb}
-use Rattle.bytes.specs.Bytes.{index_of, slice}
+use Rattle.octets.specs.Octets.{index_of}
 use Rattle.paper.specs.Line.{line_of}
 use Rattle.paper.specs.Columns.{column_in, in_line, whole_line}
 use Rattle.paper.specs.Reading.{lines_of, start, checked, with_listed, with_passed, on_line, read_from, read_of}
@@ -60,7 +60,7 @@ going_start choice s store₀ most e =
 
 module _ {choice : Choice} {s : List ℕ} {at : ℕ} {x : Line} where
   -- by the search for its LF
-  pub searched : (end : ℕ) → (end ≡ at + index_of 10 (slice at (length s) s)) × (end ≤ length s) → (end ≡ length s → ⊥)
+  pub searched : (end : ℕ) → (end ≡ at + index_of 10 (drop at s)) × (end ≤ length s) → (end ≡ length s → ⊥)
       → x ≡ line_of choice (take (end - at) (drop at s)) → Here choice s at x (end + 1)
   searched end found is-line is =
       record { reads = is ∙ ap (line_of choice) (line_here s at end found.0); ends = next_here s at end found.0; near = omega (arith, found.1) }
@@ -79,7 +79,7 @@ module _ {choice : Choice} {s : List ℕ} {at : ℕ} {x : Line} where
   shorter here = omega (arith, further here, here.near)
 
 -- the column of what decides in it
-pub column_here : (s : List ℕ) (at end : ℕ) → end ≡ at + index_of 10 (slice at (length s) s) → (spot : Spot) {column : ℕ}
+pub column_here : (s : List ℕ) (at end : ℕ) → end ≡ at + index_of 10 (drop at s) → (spot : Spot) {column : ℕ}
     → column ≡ column_in (take (end - at) (drop at s)) spot → column ≡ column_in (line_at s at) spot
 column_here s at end found spot is = rw (line_here s at end found) at is
 
@@ -116,7 +116,7 @@ module _ {choice : Choice} {s store₀ : List ℕ} {most : ℕ} {store : List �
   at_end h = stopped End (rw (drop_of_length-le s h))
 
   -- "no LF at its end (5)"
-  pub at_unended : (end : ℕ) → at < length s → end ≡ at + index_of 10 (slice at (length s) s) → end ≡ length s
+  pub at_unended : (end : ℕ) → at < length s → end ≡ at + index_of 10 (drop at s) → end ≡ length s
       → ReadInto choice s store₀ (record { stop = At Fault.Form (in_line n (end - at + 1)); listed = listed; passed = passed }) store
   unfolding read_from
   at_unended end some_left found e =

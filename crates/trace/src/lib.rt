@@ -27,7 +27,7 @@ pub fn read_trace(choice: Choice, s: &[u8], store: &mut [u32]) -> Read
     let mut at = begun.at;
     let mut n = begun.line;
     while at < s.len() {
-        let end = bytes::scan::find(s, at, s.len(), 10);
+        let end = octets::find(s, at, 10);
         if end == s.len() {
             let site = Site {
                 line: n,

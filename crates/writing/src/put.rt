@@ -10,7 +10,7 @@ pub(crate) fn put(room: &mut [u8], at: usize, word: &[u8])
     requires { at + length word.now ≤ length room.old }
     ensures { room.new ≡ sets room.old at word.now }
 {
-    bytes::copy(word, &mut room[at..]);
+    octets::copy(word, &mut room[at..]);
 }
 
 // A word and a time, answering the place behind them. The time has a form and there is room, so that it is always written.
