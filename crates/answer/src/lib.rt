@@ -1,4 +1,6 @@
 // The answer that a call comes to: a refusal by its number, line and column, or acceptance with its verdict and its counts.
+#![tactic(auto)]
+
 mod list;
 
 ghost use Rattle.std.specs.Prelude.{◌≡◌};
@@ -10,7 +12,7 @@ pub use list::{filled_list, unfilled};
 use paper::{Answer, Fault, Site};
 
 // What is counted in an accepted trace.
-#[derive(Drop)]
+#[derive(Clone, Copy)]
 pub struct Counts {
     pub listed: usize,
     pub passed: usize,

@@ -1,13 +1,12 @@
 -- The tests of the arguments, told.
 use Prim.Native.Nat.{ℕ, ◌≤◌, ◌<◌}
-use mathlib.Core.Path.{◌≡◌, refl, sym}
+use mathlib.Core.Path.{◌≡◌, refl}
 use mathlib.Core.Bool.{cond}
 use mathlib.Core.List.{List, [], ◌∷◌}
 use native.Mathlib.Omega.{arith}
 use lib.ListN.{length, get_or}
 use lib.Dec.{eqb, ltb}
-use borrow.Author.Tests.{eq-eqb, ne_eqb, lt-ltb, le-ltb}
-use Rattle.arguments.specs.declared.Plan.{Plan}
+use borrow.Author.Tests.{ne_eqb, lt-ltb, le-ltb}
 use Rattle.arguments.specs.declared.Plan.TheVariants.{BadChoice, TooMany, Unnamed, Judge}
 use Rattle.arguments.specs.Arguments.{choice_named, plan_of}
 

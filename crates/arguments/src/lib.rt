@@ -1,12 +1,14 @@
 // What the arguments ask for, as words: document 01, "A first argument other than 1 or 2, or none, is refusal 1; after that a file that
 // can't be read, or isn't named, gives the single line "cannot read"".
+#![tactic(auto)]
+
 ghost use Rattle.std.specs.Prelude.{◌≡◌};
 ghost use Rattle.arguments.specs.Arguments.{choice_named, plan_of, choice_and_share, choice_alone};
 
 use paper::Asked;
 
 // What is to be done, before any file is looked at: the choice, and whether the written trace is wanted.
-#[derive(Drop)]
+#[derive(Clone, Copy)]
 pub enum Plan {
     BadChoice,
     TooMany,

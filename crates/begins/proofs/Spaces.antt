@@ -8,7 +8,7 @@ use native.Mathlib.Numerals.{add-one}
 use native.Mathlib.Nat.{zero-add, add-suc}
 use borrow.Author.Tests.{lt-ltb, le-ltb}
 use lib.ListN.{length, drop, length-drop}
-use lib.Seq.{take-length, drop-drop}
+use lib.Seq.{drop-drop}
 use Rattle.octets.specs.Octets.{index_of}
 use Rattle.paper.specs.Line.{after, goes_on, fields_above}
 use Rattle.paper.specs.Columns.{column_of}

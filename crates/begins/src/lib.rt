@@ -1,10 +1,12 @@
 // Where a field of a line begins. A line is given without its LF, and its fields are counted from 0.
+#![tactic(auto)]
+
 ghost use Rattle.std.specs.Prelude.{◌≡◌};
 ghost use Rattle.paper.specs.Columns.{column_of};
 ghost use Rattle.begins.specs.Begins.{Begins};
 
 // The place where a field begins, which for an empty one may be the line's end; or there is no such field.
-#[derive(Drop)]
+#[derive(Clone, Copy)]
 pub enum Begin {
     At(usize),
     Missing,

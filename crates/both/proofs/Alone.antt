@@ -15,7 +15,6 @@ use Rattle.paper.specs.declared.Both.TheVariants.{Apart, Unfit}
 use Rattle.paper.specs.declared.Choice.{Choice}
 use Rattle.paper.specs.declared.Entry.{Entry}
 use Rattle.paper.specs.declared.Fault.{Fault}
-use Rattle.paper.specs.declared.Fault.TheVariants as Fault
 use Rattle.paper.specs.declared.Site.{Site}
 use Rattle.paper.specs.declared.Stop.TheVariants.{End, At}
 use Rattle.paper.specs.declared.Tally.{Tally}

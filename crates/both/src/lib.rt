@@ -1,4 +1,6 @@
 // Two traces read by themselves, one after the other into one store: "4 to 12 of the first trace, then of the second, then 18, line 0".
+#![tactic(auto)]
+
 ghost use Rattle.std.specs.Prelude.{◌≡◌};
 ghost use Rattle.paper.specs.Merging.{most_alone, both_of};
 ghost use Rattle.store.specs.Layout.{capacity};

@@ -1,4 +1,6 @@
 // The program: all of it is in the crate rollout.
-fn main() {
-    rollout::run();
+#![tactic(auto)]
+
+fn main(rt: HostRuntime) {
+    rollout::run(&rt);
 }

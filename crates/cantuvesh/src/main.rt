@@ -1,4 +1,6 @@
 // The program: all of it is in the crate shell.
-fn main() {
-    shell::run();
+#![tactic(auto)]
+
+fn main(rt: HostRuntime) {
+    shell::run(&rt);
 }

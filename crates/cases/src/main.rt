@@ -6,14 +6,23 @@
 // line that begins with ':' has a choice and a line of a trace, which is a whole trace with its LF, and of one with '/' every beginning is,
 // without an LF. A line that begins with '|' has a choice and two lines with a bar between them, a whole trace each, which are merged. A new
 // case needs no proof.
+#![tactic(auto)]
+
 ghost use Rattle.std.specs.Prelude.{◌≡◌, ◌≤◌, length};
 
+use files::Disk;
 use octets::find;
-use libc::STDOUT_FILENO;
 use showing::Shows;
+use std::fs;
+use std::fs::{File, OpenFile, OpenOptions, Permissions};
+use std::io::Write;
+use std::os::unix::fs::{PermissionsExt, symlink};
+use std::rt::Files;
+
+const STDOUT: i32 = 1;
 
 // The programs that take a choice, two files and one word more, or two.
-#[derive(Drop)]
+#[derive(Clone, Copy)]
 enum Program {
     Judge,
     Merge,
@@ -21,37 +30,49 @@ enum Program {
     Why,
 }
 
-fn main() {
-    lock(b"locked");
-    write_long();
-    write_filling();
+fn main(rt: HostRuntime) {
+    lock(&rt, "locked");
+    link(&rt, "kept", "link");
+    link(&rt, "absent", "nowhere");
+    write_long(&rt);
+    write_filling(&rt);
     let mut list = io::large_buffer();
-    let read = files::load(b"list", &mut list);
+    let read = files::load(&rt, b"list", &mut list);
     let n = read.len;
-    cases(&list[..n]);
+    cases(&rt, &list[..n]);
 }
 
 // A file that its owner may neither read nor write.
-fn lock(name: &[u8]) {
-    let file = os::create(name);
-    libc::fchmod(file, 0);
-    libc::close(file);
+fn lock<R: Files>(rt: &R, name: &str) {
+    if let Ok(file) = OpenOptions::new()
+        .write(true)
+        .create_new(true)
+        .open(rt, name)
+    {
+        let _ = file.set_permissions(Permissions::from_mode(0));
+    }
+}
+
+// A link to another name, in the place of whatever has this one.
+fn link<R: Files>(rt: &R, to: &str, name: &str) {
+    let _ = fs::remove_file(rt, name);
+    let _ = symlink(rt, to, name);
 }
 
 // A text of latencies as long as one may be, and one with a byte more: a rule, and then a comment.
-fn write_long() {
+fn write_long<R: Files>(rt: &R) {
     let text = long_text();
-    write_first(b"full.latencies", b"", &text, 262_144, b"");
-    write_first(b"overlong.latencies", b"", &text, 262_145, b"");
+    write_first(rt, "full.latencies", b"", &text, 262_144, b"");
+    write_first(rt, "overlong.latencies", b"", &text, 262_145, b"");
 }
 
 // Two traces of one line, which lenient passes over. With 40,960 bytes of another trace the first fills a room of 65,536, and the second has
 // a byte more.
-fn write_filling() {
+fn write_filling<R: Files>(rt: &R) {
     let text = long_text();
     let head = b"-5 0 0.000000 0 0 1 ";
-    write_first(b"fills.picl", head, &text, 24_555, b"\n");
-    write_first(b"overfills.picl", head, &text, 24_556, b"\n");
+    write_first(rt, "fills.picl", head, &text, 24_555, b"\n");
+    write_first(rt, "overfills.picl", head, &text, 24_556, b"\n");
 }
 
 fn long_text() -> [u8; 262145]
@@ -67,55 +88,56 @@ fn long_text() -> [u8; 262145]
 }
 
 // The first bytes of a text.
-fn write_first(name: &[u8], head: &[u8], text: &[u8], n: usize, end: &[u8]) {
+fn write_first<R: Files>(rt: &R, name: &str, head: &[u8], text: &[u8], n: usize, end: &[u8]) {
     if text.len() < n {
         return;
     }
-    write(name, head, &text[0..n], end);
+    write(rt, name, head, &text[0..n], end);
 }
 
 // A text into a file, whatever it held, between what comes before and what comes behind it.
-fn write(name: &[u8], head: &[u8], text: &[u8], end: &[u8]) {
-    let file = os::open_overwrite(name);
-    io::write_all(file, head);
-    io::write_all(file, text);
-    io::write_all(file, end);
-    libc::close(file);
+fn write<R: Files>(rt: &R, name: &str, head: &[u8], text: &[u8], end: &[u8]) {
+    if let Ok(mut file) = File::create(rt, name) {
+        let _ = file.write_all(head);
+        let _ = file.write_all(text);
+        let _ = file.write_all(end);
+    }
 }
 
-fn cases(list: &[u8]) {
+fn cases<R: Disk>(rt: &R, list: &[u8]) {
     let mut at = 0;
     while at < list.len() {
         let end = find(list, at, b'\n');
-        case(&list[at..end]);
+        case(rt, &list[at..end]);
         at = end + 1;
     }
 }
 
-fn case(line: &[u8]) {
+fn case<R: Disk>(rt: &R, line: &[u8]) {
     print(b"== ");
     print(line);
     print(b"\n");
     if line.len() == 0 {
-        run(Program::Judge, line);
+        run(rt, Program::Judge, line);
         return;
     }
     match line[0] {
-        b'>' => show(&line[1..]),
-        b'?' => compare(&line[1..]),
-        b'=' => make(&line[1..]),
-        b'!' => rollout::perform(&line[1..], b' '),
-        b':' => judge_line(&line[1..]),
-        b'/' => judge_beginnings(&line[1..]),
-        b'&' => run(Program::Merge, &line[1..]),
-        b'@' => run(Program::Messages, &line[1..]),
-        b'^' => run(Program::Why, &line[1..]),
-        b'|' => merge_lines(&line[1..]),
-        _ => run(Program::Judge, line),
+        b'>' => show(rt, &line[1..]),
+        b'?' => compare(rt, &line[1..]),
+        b'=' => make(rt, &line[1..]),
+        b'!' => rollout::perform(rt, &line[1..], b' '),
+        b':' => judge_line(rt, &line[1..]),
+        b'/' => judge_beginnings(rt, &line[1..]),
+        b'&' => run(rt, Program::Merge, &line[1..]),
+        b'@' => run(rt, Program::Messages, &line[1..]),
+        b'^' => run(rt, Program::Why, &line[1..]),
+        b'|' => merge_lines(rt, &line[1..]),
+        _ => run(rt, Program::Judge, line),
     }
 }
 
-fn perform(
+fn perform<R: Disk>(
+    rt: &R,
     program: Program,
     count: usize,
     choice: &[u8],
@@ -125,19 +147,37 @@ fn perform(
     last: &[u8],
 ) {
     match program {
-        Program::Judge => shell::perform(count, choice, first, second, third),
-        Program::Merge => gather::perform(count, choice, first, second, third),
+        Program::Judge => shell::perform(rt, count, choice, first, second, third),
+        Program::Merge => gather::perform(rt, count, choice, first, second, third),
         Program::Messages => {
-            inquiry::perform(Shows::Messages, count, choice, first, second, third, last)
+            inquiry::perform(
+                rt,
+                Shows::Messages,
+                count,
+                choice,
+                first,
+                second,
+                third,
+                last,
+            )
         }
-        Program::Why => inquiry::perform(Shows::Reasons, count, choice, first, second, third, last),
+        Program::Why => inquiry::perform(
+            rt,
+            Shows::Reasons,
+            count,
+            choice,
+            first,
+            second,
+            third,
+            last,
+        ),
     }
 }
 
 // The words of a line as its arguments, with its own name in the count.
-fn run(program: Program, line: &[u8]) {
+fn run<R: Disk>(rt: &R, program: Program, line: &[u8]) {
     if line.len() == 0 {
-        perform(program, 1, line, line, line, line, line);
+        perform(rt, program, 1, line, line, line, line, line);
         return;
     }
     let a = behind(line, 0);
@@ -145,6 +185,7 @@ fn run(program: Program, line: &[u8]) {
     let c = behind(line, b);
     let d = behind(line, c);
     perform(
+        rt,
         program,
         spaces(line) + 2,
         word(line, 0),
@@ -156,41 +197,41 @@ fn run(program: Program, line: &[u8]) {
 }
 
 // The same for the program that makes tables.
-fn make(line: &[u8]) {
+fn make<R: Disk>(rt: &R, line: &[u8]) {
     if line.len() == 0 {
-        tables::perform(1, line, line);
+        tables::perform(rt, 1, line, line);
         return;
     }
     let a = behind(line, 0);
-    tables::perform(spaces(line) + 2, word(line, 0), word(line, a));
+    tables::perform(rt, spaces(line) + 2, word(line, 0), word(line, a));
 }
 
 // A choice and a line of a trace.
-fn judge_line(line: &[u8]) {
+fn judge_line<R: Disk>(rt: &R, line: &[u8]) {
     let text = behind(line, 0);
-    judge_text(word(line, 0), &line[text..], b"\n");
+    judge_text(rt, word(line, 0), &line[text..], b"\n");
 }
 
-fn judge_beginnings(line: &[u8]) {
+fn judge_beginnings<R: Disk>(rt: &R, line: &[u8]) {
     for n in 0..line.len() {
-        judge_text(b"1", &line[0..n + 1], b"");
+        judge_text(rt, b"1", &line[0..n + 1], b"");
     }
 }
 
-fn judge_text(choice: &[u8], text: &[u8], end: &[u8]) {
-    write(b"text", b"", text, end);
-    shell::perform(4, choice, b"text", b"five.table", b"");
+fn judge_text<R: Disk>(rt: &R, choice: &[u8], text: &[u8], end: &[u8]) {
+    write(rt, "text", b"", text, end);
+    shell::perform(rt, 4, choice, b"text", b"five.table", b"");
 }
 
 // What two lines are merged into is printed: nothing, where they are refused.
-fn merge_lines(line: &[u8]) {
+fn merge_lines<R: Disk>(rt: &R, line: &[u8]) {
     let a = behind(line, 0);
     let b = next(line, a, b'|');
-    write(b"one", b"", part(line, a, b'|'), b"\n");
-    write(b"other", b"", &line[b..], b"\n");
-    write(b"both", b"", b"", b"");
-    gather::perform(5, word(line, 0), b"one", b"other", b"both");
-    show(b"both");
+    write(rt, "one", b"", part(line, a, b'|'), b"\n");
+    write(rt, "other", b"", &line[b..], b"\n");
+    write(rt, "both", b"", b"", b"");
+    gather::perform(rt, 5, word(line, 0), b"one", b"other", b"both");
+    show(rt, b"both");
 }
 
 // The part of a line that begins at a place and goes to a byte, and where the next one begins: at the line's end where there is none.
@@ -238,9 +279,9 @@ fn spaces(line: &[u8]) -> usize
     n
 }
 
-fn show(name: &[u8]) {
+fn show<R: Disk>(rt: &R, name: &[u8]) {
     let mut text = io::large_buffer();
-    let read = files::load(name, &mut text);
+    let read = files::load(rt, name, &mut text);
     if !read.ok {
         print(b"no file\n");
         return;
@@ -249,12 +290,12 @@ fn show(name: &[u8]) {
     print(&text[..n]);
 }
 
-fn compare(line: &[u8]) {
+fn compare<R: Disk>(rt: &R, line: &[u8]) {
     let a = behind(line, 0);
     let mut one = io::large_buffer();
     let mut other = io::large_buffer();
-    let first = files::load(word(line, 0), &mut one);
-    let second = files::load(word(line, a), &mut other);
+    let first = files::load(rt, word(line, 0), &mut one);
+    let second = files::load(rt, word(line, a), &mut other);
     if !first.ok {
         print(b"no file\n");
         return;
@@ -273,5 +314,5 @@ fn compare(line: &[u8]) {
 }
 
 fn print(text: &[u8]) {
-    io::write_all(STDOUT_FILENO, text);
+    io::write_all(STDOUT, text);
 }

@@ -1,7 +1,7 @@
 -- What is said of the chain: it is the one that is asked for, there is no other, and no record occurs in it twice.
 use Prim.Native.Nat.{ℕ, ◌+◌, ◌≤◌, ◌<◌}
 use native.Mathlib.Omega.{arith}
-use mathlib.Core.Path.{◌≡◌, refl, sym, ◌∙◌}
+use mathlib.Core.Path.{ap, ◌≡◌, refl, sym, ◌∙◌}
 use mathlib.Core.Logic.{◌⊎◌, inl, inr}
 use mathlib.Core.Option.{Option, get_or, some-injective}
 use mathlib.Core.List.{List, [], ◌∷◌}
@@ -24,11 +24,21 @@ sooner_begins : {w : Waits} {c d : List ℕ} → Sooner w c d → at c 0 ≡ at 
 sooner_begins (now e other) = refl
 sooner_begins (later s) = refl
 
+-- between lists that are equal two and two
+sooner_twice : {w : Waits} {c d e f : List ℕ} → Sooner w c d → Sooner w e f → c ≡ f → d ≡ e → ⊥
+sooner_twice (now a other) (now b another) p q = other (cc)
+sooner_twice (now {j = j} {k = k} {c = c} {d = d} a other) (later {c = e} {d = f} t) p q =
+    let u : f ≡ j ∷ c = cc in
+    let v : e ≡ k ∷ d = cc in
+    other (sym (ap (λ (l : List ℕ). at l 0) u) ∙ sym (sooner_begins t) ∙ ap (λ (l : List ℕ). at l 0) v)
+sooner_twice (later {c = c} {d = d} s) (now {j = j} {k = k} {c = e} {d = f} b another) p q =
+    let u : c ≡ k ∷ f = cc in
+    let v : d ≡ j ∷ e = cc in
+    another (sym (ap (λ (l : List ℕ). at l 0) v) ∙ sym (sooner_begins s) ∙ ap (λ (l : List ℕ). at l 0) u)
+sooner_twice (later s) (later t) p q = sooner_twice s t (cc) (cc)
+
 sooner_once : {w : Waits} {c d : List ℕ} → Sooner w c d → Sooner w d c → ⊥
-sooner_once (now {j = j} {k = k} e other) (now f another) = other (some-injective j k (sym e ∙ f))
-sooner_once (now e other) (later t) = other (sym (sooner_begins t))
-sooner_once (later s) (now f another) = another (sym (sooner_begins s))
-sooner_once (later s) (later t) = sooner_once s t
+sooner_once s t = sooner_twice s t refl refl
 
 pub one_chosen : {w : Waits} {x : ℕ → ℤ} {i : ℕ} (c d : List ℕ) → Chosen w x i c → Chosen w x i d → d ≡ c
 one_chosen {w} c d p q = go (p.sooner d q.explains long) (q.sooner c p.explains (sym long))

@@ -9,14 +9,12 @@ use borrow.Table.Elements.{take-le}
 use lib.ListN.{length, take}
 use lib.Seq.{length-take-le}
 use lib.IntN.{ℤ}
-use Rattle.paper.specs.Answer as paper
 use Rattle.paper.specs.Answer.{reach}
 use Rattle.paper.specs.Chain.{on_place, chain}
 use Rattle.paper.specs.Columns.{nowhere}
 use Rattle.paper.specs.Filling.{Query, query, untouched, judged, on_reached, fill}
 use Rattle.paper.specs.Matching.{waits_of}
 use Rattle.paper.specs.declared.Fault.{Fault}
-use Rattle.paper.specs.declared.Fault.TheVariants as Fault
 use Rattle.paper.specs.declared.Filled.{Filled}
 use Rattle.paper.specs.declared.Site.{Site}
 use Rattle.store.specs.Layout.{entries_in}

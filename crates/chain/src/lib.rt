@@ -1,5 +1,7 @@
 // The public call that tells why a time moved: a trace, a latency table, what the caller names and the place of a record in, the chain of
 // that record in the list that the caller lent. How far the call comes is said by crate seek; 22, 16 and the list stand in conclude.rt.
+#![tactic(auto)]
+
 mod conclude;
 mod exact;
 

@@ -1,6 +1,8 @@
 // The place of each receive's send. "The k-th receive at processor q from p with type t belongs to the k-th send from p to q with
 // type t, both counted in file order." Each key has a bucket; the sends of a bucket are linked forwards and its receives
 // backwards. The send of a receive is the next one under its key behind the send of the receive before it under that key.
+#![tactic(auto)]
+
 ghost use Rattle.std.specs.Prelude.{◌≡◌, ◌+◌, ◌<◌, ◌≤◌, length, replicate};
 ghost use Rattle.store.specs.Layout.{too_many, entries_in};
 ghost use Rattle.side.specs.Sides.{key_of, bucket_of, send_under, receive_under};

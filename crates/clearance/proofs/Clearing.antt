@@ -14,7 +14,6 @@ use Rattle.paper.specs.declared.Choice.{Choice}
 use Rattle.paper.specs.declared.Choice.TheVariants.{Strict, Lenient}
 use Rattle.paper.specs.declared.Fault.{Fault}
 use Rattle.paper.specs.declared.Site.{Site}
-use Rattle.paper.specs.declared.Fault.TheVariants as Fault
 use Rattle.forms.proofs.Tests.{both}
 use Rattle.clearance.specs.declared.Heard.{Heard}
 use Rattle.clearance.specs.declared.Heard.TheVariants.{Of, Nothing}

@@ -6,7 +6,6 @@ use Rattle.paper.specs.declared.Asked.{Asked}
 use Rattle.paper.specs.declared.Choice.{Choice}
 use Rattle.paper.specs.declared.Fault.TheVariants as Fault
 use Rattle.clearance.specs.declared.Heard.{Heard}
-use Rattle.clearance.specs.declared.Heard.TheVariants as Heard
 use Rattle.clearance.specs.declared.Cleared.{Cleared}
 use Rattle.clearance.specs.declared.Cleared.TheVariants.{Under, Refused}
 

@@ -1,4 +1,6 @@
 // "1 to 4": what is asked of the choice and the two switches, the lent table, the number of lent times, the share and the size of the trace.
+#![tactic(auto)]
+
 ghost use Rattle.std.specs.Prelude.{◌≡◌};
 ghost use Rattle.paper.specs.Answer.{choice_of, heard, low_latencies};
 ghost use Rattle.clearance.specs.Clearance.{given_of, heard_of, cleared_under, clearance};
@@ -6,14 +8,14 @@ ghost use Rattle.clearance.specs.Clearance.{given_of, heard_of, cleared_under, c
 use paper::{Asked, Choice, Fault};
 
 // The lines are to be read under a choice, or not at all.
-#[derive(Drop)]
+#[derive(Clone, Copy)]
 pub enum Cleared {
     Under(Choice),
     Refused(Fault),
 }
 
 // What the caller named, or nothing that is known.
-#[derive(Drop)]
+#[derive(Clone, Copy)]
 pub enum Heard {
     Of(Choice),
     Nothing,

@@ -1,11 +1,13 @@
 // The clock condition settled: the engine's rounds, told as an answer that both lent slices hold. specs/ says what a call leaves behind,
 // in terms of the paper's `settle`.
+#![tactic(auto)]
+
 ghost use Rattle.std.specs.Prelude.{◌≡◌, length, replicate, pos};
 ghost use Rattle.clock.specs.Promise.{outcome, outcome_of};
 
 use engine::Run;
 
-#[derive(Drop)]
+#[derive(Clone, Copy)]
 pub enum Settled {
     // the times are in both slices, after so many rounds
     Rounds(usize),

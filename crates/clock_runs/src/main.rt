@@ -1,16 +1,19 @@
 // Runs the engine on document 01's sample traces, on rings and chains and at the limit, and prints each answer: the rounds and
 // the times, all of them where they are few, else the last.
+#![tactic(auto)]
+
 ghost use Rattle.std.specs.Prelude.{◌<◌, ◌≤◌, length};
 
 use clock::Settled;
-use libc::STDOUT_FILENO;
+
+const STDOUT: i32 = 1;
 
 const SIZE: usize = 2048;
 
 const NONE: u32 = 2048;
 
 fn word(text: &[u8]) {
-    io::write_all(STDOUT_FILENO, text);
+    io::write_all(STDOUT, text);
 }
 
 // No time of these runs is negative.
@@ -20,7 +23,7 @@ fn number(t: i64) {
         word(b"below 0");
         return;
     }
-    io::print_decimal(STDOUT_FILENO, t as u64);
+    io::print_decimal(STDOUT, t as u64);
 }
 
 fn times_from(times: &[i64], first: usize) {
@@ -43,7 +46,7 @@ fn show(answer: Settled, times: &[i64]) {
     match answer {
         Settled::Rounds(k) => {
             word(b"rounds ");
-            io::print_decimal(STDOUT_FILENO, k as u64);
+            io::print_decimal(STDOUT, k as u64);
             word(b":");
             times_of(times);
             word(b"\n");

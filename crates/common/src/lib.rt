@@ -1,5 +1,7 @@
 // 18: "if both hold a listed record of one processor". Each trace's records are gone over once, as they stand in the store after it was
 // read; lines that are passed over are not there.
+#![tactic(auto)]
+
 ghost use Rattle.std.specs.Prelude.{◌≡◌, List};
 ghost use Rattle.paper.specs.Merging.{share_one};
 ghost use Rattle.paper.specs.declared.Entry.{Entry};

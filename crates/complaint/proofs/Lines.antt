@@ -7,7 +7,7 @@ use native.Mathlib.Omega.{arith}
 use lib.ListN.{length, take}
 use lib.Dec.{leb}
 use borrow.Author.Tests.{leb-true, ne_eqb}
-use Rattle.octets.specs.Octets.{index_of, index_after}
+use Rattle.octets.specs.Octets.{index_of}
 use Rattle.paper.specs.Text.{bytes_of}
 use Rattle.named.specs.Values.{written}
 use Rattle.flags.specs.Plan.{bad, missing}

@@ -1,4 +1,6 @@
 // What is said of named arguments of which one is bad or missing: one line, whatever the caller typed.
+#![tactic(auto)]
+
 mod put;
 
 ghost use Rattle.complaint.specs.Complaint.{Complained};

@@ -5,13 +5,10 @@ use Rattle.paper.specs.Columns.{nowhere}
 use Rattle.paper.specs.declared.Answer.{Answer}
 use Rattle.paper.specs.declared.Fault.TheVariants as Fault
 use Rattle.paper.specs.declared.Joint.{Joint}
-use Rattle.paper.specs.declared.Joint.TheVariants as Joint
 use Rattle.paper.specs.declared.Merged.{Merged}
 use Rattle.answer.specs.Answers.{refusal}
 use Rattle.report.specs.declared.Replied.{Replied}
-use Rattle.report.specs.declared.Replied.TheVariants as Replied
 use Rattle.report.specs.declared.Said.{Said}
-use Rattle.report.specs.declared.Said.TheVariants as Said
 use Rattle.decided.specs.declared.Readiness.{Readiness}
 use Rattle.decided.specs.declared.Readiness.TheVariants.{Both, Ended}
 

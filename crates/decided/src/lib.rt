@@ -1,5 +1,7 @@
 // What is said of two files, as far as it goes by what the system told of them: before they are judged, and at the end; and at the end of
 // a merging. The functions that ask the system are those of `filed` and `gather`.
+#![tactic(auto)]
+
 ghost use Rattle.std.specs.Prelude.{◌≡◌};
 ghost use Rattle.decided.specs.Decided.{ready_of, storing, end_of, after_merging};
 
@@ -7,7 +9,7 @@ use paper::{Answer, Fault, Joint, Merged};
 use report::{Replied, Said};
 
 // Whether there is a trace and a table to judge it by, or what is said without.
-#[derive(Drop)]
+#[derive(Clone, Copy)]
 pub enum Readiness {
     Both,
     Ended(Said),

@@ -1,4 +1,6 @@
 // The messages of a trace as text, a line to each and in file order of receives.
+#![tactic(auto)]
+
 mod single;
 
 ghost use Rattle.std.specs.Prelude.{◌≡◌, ◌+◌, ◌*◌, ◌≤◌, ◌<◌, length};

@@ -141,7 +141,7 @@ module _ (l : List ℕ) (p : fields_above 5 l ≡ true) where
   row_field k (later a a₁ (later b b₁ (later c c₁ (here d₁)))) h = head_read l p ∙ rw (a₁, b₁, c₁, d₁)
   row_field k (later a a₁ (later b b₁ (later c c₁ (later d d₁ (here e₁))))) h = head_read l p ∙ rw (a₁, b₁, c₁, d₁, e₁)
   row_field k (later a a₁ (later b b₁ (later c c₁ (later d d₁ (later e e₁ (here f₁)))))) h = head_read l p ∙ rw (a₁, b₁, c₁, d₁, e₁, f₁)
-  row_field _ (later a a₁ (later b b₁ (later c c₁ (later d d₁ (later e e₁ (later f f₁ none)))))) h = elim none [ ]
+  row_field _ (later a a₁ (later b b₁ (later c c₁ (later d d₁ (later e e₁ (later f f₁ x)))))) h = elim x [ ]
 
 head_row : (choice : Choice) (l : List ℕ) (fault : Fault) (k : ℕ) → head_of l ≡ bad fault k → RowIn choice l fault (Spot.Field k)
 unfolding head_of

@@ -1,4 +1,6 @@
 // The ending of a call whose times were found, by what the writing came to: 16, or acceptance, and the lent times by that answer.
+#![tactic(auto)]
+
 ghost use Rattle.std.specs.Prelude.{◌≡◌, ◌++◌, ◌≤◌, length, drop};
 ghost use Rattle.ending.specs.Ending.{answer_for, times_after, EndedBy};
 

@@ -1,6 +1,8 @@
 // The engine of the clock condition: round after round over two lent slices until one repeats. specs/ says how that ends, in terms
 // of the paper's `settle`. No table of originals is kept: rounds rise, so that the largest of a record's own time, its
 // predecessor's plus the gap and its send's plus latency is the paper's next time (proofs/Rising.antt).
+#![tactic(auto)]
+
 ghost use Rattle.std.specs.Prelude.{◌≤◌, ◌<◌, ◌≡◌, [], ◌∷◌, length, get_or};
 ghost use Rattle.paper.specs.Tests.{all_up_to};
 ghost use Rattle.paper.specs.Clock as paper;
@@ -15,7 +17,7 @@ const LIMIT: i64 = 999_999_999_999_999;
 const WIDEST: u64 = 1_999_999_999_999_998;
 
 // What a round did.
-#[derive(Drop)]
+#[derive(Clone, Copy)]
 enum Turn {
     Over,
     Same,
@@ -23,7 +25,7 @@ enum Turn {
 }
 
 // How the rounds ended.
-#[derive(Drop)]
+#[derive(Clone, Copy)]
 pub enum Run {
     // the times are in both slices, after so many rounds
     At(usize),

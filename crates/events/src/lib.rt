@@ -1,5 +1,7 @@
 // "Event types are sorted by range": the paper's table as one match, a line to each of its rows. Of the messages -21 is send0, -27 to -31
 // are sendbegin0, sendstatus0 and sendend0; -51 and -52 are recv0, -57 to -61 recvbegin0, recvstatus0 and recvend0.
+#![tactic(auto)]
+
 ghost use Rattle.std.specs.Prelude.{◌≡◌};
 ghost use Rattle.paper.specs.Events.{standing_of};
 

@@ -49,8 +49,8 @@ pub extern "C" fn cantuvesh_chain(
     chain::chain(trace, latencies, asked, place, list)
 }
 
-// The only function here that has more than a call in it: the list is a slice of structs, of which no other crate takes a reference, for
-// such a function is proved by hand. All that has a branch in it is called.
+// The only function here that has more than a call in it: the list is a slice of structs, of which no other crate takes a reference. All
+// that has a branch in it is called.
 #[unsafe(no_mangle)]
 pub extern "C" fn cantuvesh_messages(
     trace: &[u8],

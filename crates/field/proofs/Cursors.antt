@@ -7,7 +7,7 @@ use mathlib.Core.Option.{none, some}
 use native.Mathlib.Numerals.{add-one}
 use native.Mathlib.Omega.{arith}
 use lib.ListN.{length, take, drop, length-drop}
-use lib.Seq.{take-length, drop-drop}
+use lib.Seq.{drop-drop}
 use lib.Dec.{ltb}
 use lib.IntN.{ℤ, pos}
 use native.Mathlib.Nat.{add-suc}
@@ -20,7 +20,6 @@ use Rattle.field.specs.Cursor.{rest_at, got_of, got_next, counted_of, counted_ne
 use Rattle.field.specs.declared.Got.{Got}
 use Rattle.field.specs.declared.Got.TheVariants.{Value, Nothing}
 use Rattle.field.specs.declared.Counted.{Counted}
-use Rattle.field.specs.declared.Counted.TheVariants as Counted
 
 module _ (l : List ℕ) (at : ℕ) where
   pub past : length l < at → rest_at l at ≡ none
@@ -34,14 +33,10 @@ module _ (l : List ℕ) (at : ℕ) where
 pub at_start : (l : List ℕ) → rest_at l 0 ≡ some l
 at_start l = inside l 0 (omega arith)
 
--- the bytes from the cursor on, as the search for a space takes them
-pub searched : (l : List ℕ) (at : ℕ) → drop at l ≡ drop at l
-searched l at = refl
-
 -- a field that starts at the cursor and ends where the search for a space ended
 module _ (l : List ℕ) (at end : ℕ) (low : at ≤ length l) (found : end ≡ at + index_of 32 (drop at l)) where
   ends : end ≡ at + index_of 32 (drop at l)
-  ends = rw searched at found
+  ends = found
 
   pub part : take (end - at) (drop at l) ≡ field (drop at l)
   unfolding field

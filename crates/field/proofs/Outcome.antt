@@ -18,7 +18,6 @@ use Rattle.field.specs.declared.Form.TheVariants.{Whole, Time, TimesQuoted, Numb
 use Rattle.field.specs.declared.Got.{Got}
 use Rattle.field.specs.declared.Got.TheVariants.{Value, Nothing}
 use Rattle.field.specs.declared.Counted.{Counted}
-use Rattle.field.specs.declared.Counted.TheVariants as Counted
 use Rattle.field.specs.Cursor.{rest_at, got_of, got_next, counted_of, counted_next, Tells, read_as}
 
 -- two cursors with the same fields behind them, neither of them far past the end, stand at one place

@@ -9,7 +9,6 @@ use Rattle.field.specs.declared.Form.TheVariants.{Whole, Time, TimesQuoted, Numb
 use Rattle.field.specs.declared.Got.{Got}
 use Rattle.field.specs.declared.Got.TheVariants.{Value, Nothing}
 use Rattle.field.specs.declared.Counted.{Counted}
-use Rattle.field.specs.declared.Counted.TheVariants as Counted
 
 unfoldable pub read_as : Form → List ℕ → Field
 read_as Whole = whole_of

@@ -1,5 +1,7 @@
 // One field of a line, read at a cursor. A line is given without its LF. A cursor is the place where a field starts; one past the end
 // of the line stands for no field.
+#![tactic(auto)]
+
 ghost use Rattle.std.specs.Prelude.{◌≡◌};
 ghost use Rattle.paper.specs.Forms.{text_of};
 ghost use Rattle.paper.specs.Line.{first_of, count_of};
@@ -9,7 +11,7 @@ use paper::Field;
 use signed::Natural;
 
 // The form that a field is read in.
-#[derive(Drop)]
+#[derive(Clone, Copy)]
 pub enum Form {
     Whole,
     Time,
@@ -18,14 +20,14 @@ pub enum Form {
 }
 
 // The value of a field, and where the next field starts.
-#[derive(Drop)]
+#[derive(Clone, Copy)]
 pub enum Got {
     Value(i64, usize),
     Nothing,
 }
 
 // A number of data fields, and where the next field starts.
-#[derive(Drop)]
+#[derive(Clone, Copy)]
 pub enum Counted {
     Of(usize, usize),
     Nothing,

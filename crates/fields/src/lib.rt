@@ -1,4 +1,6 @@
 // The six fields that every record begins with, read by a cursor as crate field has it.
+#![tactic(auto)]
+
 mod head;
 
 ghost use Rattle.paper.specs.Line.{head_of};
@@ -8,7 +10,7 @@ ghost use Rattle.fields.specs.Cursor.{begun_of, begun_next};
 use paper::{Fault, Head};
 
 // The six fields, and where the next field starts; or the fault and the field that has it, counted from 0.
-#[derive(Drop)]
+#[derive(Clone, Copy)]
 pub enum Opening {
     Six(Head, usize),
     Bad(Fault, usize),

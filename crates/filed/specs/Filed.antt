@@ -10,7 +10,6 @@ use Rattle.paper.specs.declared.Fault.TheVariants as Fault
 use Rattle.answer.specs.Answers.{refusal}
 use Rattle.table.specs.Table.{latencies_of}
 use Rattle.report.specs.declared.Said.{Said}
-use Rattle.report.specs.declared.Said.TheVariants as Said
 use Rattle.decided.specs.Decided.{storing, end_of}
 
 -- ---- the judgement

@@ -6,6 +6,7 @@ ghost use Rattle.filed.specs.Filed.{on_latencies, on_files};
 ghost use Rattle.filed.specs.Judged.{JudgedInto};
 
 use decided::Readiness;
+use files::Disk;
 use paper::{Answer, Asked};
 use report::Said;
 
@@ -34,20 +35,28 @@ fn judge_into(
     judge::judge(trace, latencies, asked, &mut times, wanted, room)
 }
 
-fn concluded(asked: Asked, wanted: bool, trace: &[u8], latencies: &[u32], out: &[u8]) -> Said
+fn concluded<R: Disk>(
+    rt: &R,
+    asked: Asked,
+    wanted: bool,
+    trace: &[u8],
+    latencies: &[u32],
+    out: &[u8],
+) -> Said
     ensures { ByStored (on_latencies asked wanted trace.now latencies.now) result }
 {
     let mut room = io::large_buffer();
     let answer = judge_into(asked, wanted, trace, latencies, &mut room);
     let n = answer.written as usize;
     let storing = decided::to_store(wanted, answer);
-    let stored = files::store_asked(storing, out, &room[..n]);
+    let stored = files::store_asked(rt, storing, out, &room[..n]);
     decided::ended(storing, answer, stored)
 }
 
 // "The table file is 16,384 bytes, four for each latency, low byte first, any other length being refusal 2." What is
 // decoded of a table that could not be read is not looked at.
-pub(crate) fn judged(
+pub(crate) fn judged<R: Disk>(
+    rt: &R,
     asked: Asked,
     wanted: bool,
     read: bool,
@@ -62,6 +71,6 @@ pub(crate) fn judged(
     let fits = table::decode(table, &mut latencies);
     match decided::ready(read, got, fits) {
         Readiness::Ended(said) => said,
-        Readiness::Both => concluded(asked, wanted, trace, &latencies, out),
+        Readiness::Both => concluded(rt, asked, wanted, trace, &latencies, out),
     }
 }

@@ -1,10 +1,23 @@
 // A file written beside another, in the same folder, which then takes its name: whoever looks finds the old one or the new one, whole,
 // and so does whoever looks after a run was killed. The one beside then stays, under a name that tells.
-use crate::system::Standing;
+use crate::system::{Disk, Standing};
 use crate::{say, system};
+use std::fs::{File, OpenFile, Permissions};
+use std::io::{Error, ErrorKind, Result, Write};
+use std::os::unix::fs::{PermissionsExt, fchown};
+use std::rt::Files;
 
-// rename's error where the name is a place that something is mounted on; the crate libc has no name for it.
+// The system's numbers of the errors that forbid: a right that is missing, and a place that something is mounted on.
+const EPERM: i32 = 1;
+
+const EACCES: i32 = 13;
+
 const EBUSY: i32 = 16;
+
+// What a free name is made of, and how often one is looked for.
+const LETTERS: &[u8; 62] = b"abcdefghijklmnopqrstuvwxyzABCDEFGHIJKLMNOPQRSTUVWXYZ0123456789";
+
+const TRIES: u8 = 255;
 
 // Forbidden: the system does not let the file be replaced, and it is as it was.
 #[derive(Drop)]
@@ -15,13 +28,13 @@ pub enum Outcome {
 }
 
 // A file where there is none.
-pub fn create(name: &[u8], text: &[u8]) -> bool {
+pub fn create<R: Disk>(rt: &R, name: &[u8], text: &[u8]) -> bool {
     let mut space = io::buffer();
     let n = paths::beside(name, &mut space);
     if n == 0 {
         return false;
     }
-    let outcome = create_by(&mut space[..n], name, text);
+    let outcome = create_by(rt, &mut space[..n], name, text);
     match outcome {
         Outcome::Done => true,
         Outcome::Failed => false,
@@ -29,49 +42,91 @@ pub fn create(name: &[u8], text: &[u8]) -> bool {
     }
 }
 
-// The free name is one that mkstemp found. The file is made anew under it, since mkstemp's is for its owner alone, and a new file's mode
-// is the umask's to say.
-fn create_by(beside: &mut [u8], name: &[u8], text: &[u8]) -> Outcome {
-    let found = os::create_temp(beside);
-    if found < 0 {
-        return refused(os::errno());
+// The free name is one that `create_temp` found. The file is made anew under it, since `create_temp`'s is for its owner alone, and a new
+// file's mode is the umask's to say.
+fn create_by<R: Disk>(rt: &R, beside: &mut [u8], name: &[u8], text: &[u8]) -> Outcome {
+    match create_temp(rt, beside) {
+        Ok(_) => {}
+        Err(error) => return refused(error),
     }
-    libc::close(found);
-    remove(beside);
-    let file = os::create(beside);
-    if file < 0 {
-        return refused(os::errno());
+    remove(rt, beside);
+    match system::create(rt, beside, 0o666) {
+        Ok(file) => complete(rt, file, beside, name, text),
+        Err(error) => refused(error),
     }
-    complete(file, beside, name, text)
 }
 
 // A file for one that stands there, with its owner and its mode.
-pub fn replace(name: &[u8], old: Standing, text: &[u8]) -> Outcome {
+pub fn replace<R: Disk>(rt: &R, name: &[u8], old: Standing, text: &[u8]) -> Outcome {
     let mut space = io::buffer();
     let n = paths::beside(name, &mut space);
     if n == 0 {
         return Outcome::Forbidden;
     }
-    replace_by(&mut space[..n], name, old, text)
+    replace_by(rt, &mut space[..n], name, old, text)
 }
 
-fn replace_by(beside: &mut [u8], name: &[u8], old: Standing, text: &[u8]) -> Outcome {
-    let file = os::create_temp(beside);
-    if file < 0 {
-        return refused(os::errno());
+fn replace_by<R: Disk>(
+    rt: &R,
+    beside: &mut [u8],
+    name: &[u8],
+    old: Standing,
+    text: &[u8],
+) -> Outcome {
+    match create_temp(rt, beside) {
+        Ok(file) => replace_with(rt, file, beside, name, old, text),
+        Err(error) => refused(error),
     }
-    if !made_like(file, old) {
-        libc::close(file);
-        remove(beside);
+}
+
+fn replace_with<R: Disk>(
+    rt: &R,
+    file: File,
+    beside: &[u8],
+    name: &[u8],
+    old: Standing,
+    text: &[u8],
+) -> Outcome {
+    if !made_like(&file, old) {
+        drop(file);
+        remove(rt, beside);
         return Outcome::Forbidden;
     }
-    complete(file, beside, name, text)
+    complete(rt, file, beside, name, text)
+}
+
+// A new file that its owner alone may open, under a name that was free: the last six bytes of `beside` are made letters of such a name.
+fn create_temp<R: Disk>(rt: &R, beside: &mut [u8]) -> Result<File> {
+    for attempt in 0..TRIES {
+        make_name(rt, beside, attempt);
+        match system::create(rt, beside, 0o600) {
+            Err(error) if error.kind() == ErrorKind::AlreadyExists => {}
+            outcome => return outcome,
+        }
+    }
+    Err(Error::from(ErrorKind::AlreadyExists))
+}
+
+// Where the system has no random bytes, the number of the attempt stands for each.
+fn make_name<R: Disk>(rt: &R, beside: &mut [u8], attempt: u8) {
+    let mut bytes = [attempt; 6];
+    let _ = rt.fill_bytes(&mut bytes);
+    let Some(start) = beside.len().checked_sub(6) else {
+        return;
+    };
+    for i in 0..6 {
+        beside[start + i] = letter(bytes[i]);
+    }
+}
+
+fn letter(byte: u8) -> u8 {
+    LETTERS[(byte % 62) as usize]
 }
 
 // The owner first: a change of owner takes bits of the mode away. What was done is looked at, since a mode may be narrowed in silence.
-fn made_like(file: i32, old: Standing) -> bool {
-    libc::fchown(file, old.owner, old.group);
-    libc::fchmod(file, old.mode & 0o7777);
+fn made_like(file: &File, old: Standing) -> bool {
+    let _ = fchown(file, Some(old.owner), Some(old.group));
+    let _ = file.set_permissions(Permissions::from_mode(old.mode & 0o7777));
     let new = system::known_of(file);
     if new.owner != old.owner {
         return false;
@@ -83,70 +138,58 @@ fn made_like(file: i32, old: Standing) -> bool {
 }
 
 // The text is on the disk before the name is given.
-fn complete(file: i32, beside: &[u8], name: &[u8], text: &[u8]) -> Outcome {
+fn complete<R: Files>(rt: &R, file: File, beside: &[u8], name: &[u8], text: &[u8]) -> Outcome {
     if !filled(file, text) {
-        remove(beside);
+        remove(rt, beside);
         return Outcome::Failed;
     }
-    if os::rename(beside, name) != 0 {
-        let outcome = refused(os::errno());
-        remove(beside);
-        return outcome;
+    match system::rename(rt, beside, name) {
+        Ok(()) => {
+            sync_folder(rt, name);
+            Outcome::Done
+        }
+        Err(error) => {
+            remove(rt, beside);
+            refused(error)
+        }
     }
-    sync_folder(name);
-    Outcome::Done
 }
 
-fn filled(file: i32, text: &[u8]) -> bool {
-    let written = io::write_all(file, text);
-    let synced = libc::fsync(file);
-    let closed = libc::close(file);
-    if !written {
-        return false;
-    }
-    if synced != 0 {
-        return false;
-    }
-    closed == 0
+fn filled(mut file: File, text: &[u8]) -> bool {
+    let written = file.write_all(text).is_ok();
+    let synced = file.sync_all().is_ok();
+    written && synced
 }
 
 // A right that is missing, or a mount in the way, is no failure of the disk: the file may still be written over.
-fn refused(error: i32) -> Outcome {
-    if error == libc::EACCES {
-        return Outcome::Forbidden;
+fn refused(error: Error) -> Outcome {
+    match paths::number(error) {
+        EACCES | EPERM | EBUSY => Outcome::Forbidden,
+        _ => Outcome::Failed,
     }
-    if error == libc::EPERM {
-        return Outcome::Forbidden;
-    }
-    if error == EBUSY {
-        return Outcome::Forbidden;
-    }
-    Outcome::Failed
 }
 
-fn remove(name: &[u8]) {
-    if os::unlink(name) != 0 {
+fn remove<R: Files>(rt: &R, name: &[u8]) {
+    if system::remove(rt, name).is_err() {
         say::unfinished(name);
     }
 }
 
 // The new name is in the folder, and a folder reaches the disk like a file. A folder that may not be read cannot be asked to.
-fn sync_folder(name: &[u8]) {
+fn sync_folder<R: Files>(rt: &R, name: &[u8]) {
     let n = paths::folder(name);
     if n == 0 {
-        sync(b".");
+        sync(rt, b".");
     } else {
-        sync(&name[0..n]);
+        sync(rt, &name[0..n]);
     }
 }
 
-fn sync(folder: &[u8]) {
-    let file = os::open_read(folder);
-    if file < 0 {
+fn sync<R: Files>(rt: &R, folder: &[u8]) {
+    let Ok(file) = system::open_read(rt, folder) else {
         return;
-    }
-    if libc::fsync(file) != 0 {
+    };
+    if file.sync_all().is_err() {
         say::not_synced(folder);
     }
-    libc::close(file);
 }

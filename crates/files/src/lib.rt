@@ -1,11 +1,15 @@
 // Whole files, in and out. What the system does with a name and with bytes no contract can say: these functions are proved safe,
 // to end, and to count within what they are lent.
+#![tactic(auto)]
+
 mod beside;
 mod in_place;
+mod limit;
 mod read;
 mod say;
 mod system;
 mod write;
 
 pub use read::{Loaded, load, load_behind};
+pub use system::Disk;
 pub use write::{store, store_asked};

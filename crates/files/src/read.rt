@@ -1,6 +1,10 @@
 // A whole file into a lent buffer.
-ghost use Rattle.std.specs.Prelude.{◌≡◌};
+ghost use Rattle.std.specs.Prelude.{◌≡◌, ◌≤◌, length};
 ghost use Rattle.io.specs.Counts.{IsPrefixLen};
+
+use crate::system;
+use std::io::Read;
+use std::rt::Files;
 
 // What a buffer has of a file: len of its bytes, from the start, where ok.
 #[derive(Drop)]
@@ -10,26 +14,23 @@ pub struct Loaded {
 }
 
 // The file of this name. One that is longer than the buffer fills it.
-pub fn load(name: &[u8], buffer: &mut [u8]) -> Loaded
+pub fn load<R: Files>(rt: &R, name: &[u8], buffer: &mut [u8]) -> Loaded
     ensures { IsPrefixLen result.len buffer.new }
 {
-    let file = os::open_read(name);
-    if file < 0 {
-        return unread();
+    match system::open_read(rt, name) {
+        Ok(mut file) => load_open(&mut file, buffer),
+        Err(_) => unread(),
     }
-    let loaded = load_open(file, buffer);
-    libc::close(file);
-    loaded
 }
 
 // The file of this name, which is not waited for where the one before it can't be read.
-pub fn load_behind(read: bool, name: &[u8], buffer: &mut [u8]) -> Loaded
+pub fn load_behind<R: Files>(rt: &R, read: bool, name: &[u8], buffer: &mut [u8]) -> Loaded
     ensures { IsPrefixLen result.len buffer.new }
 {
     if !read {
         return unread();
     }
-    load(name, buffer)
+    load(rt, name, buffer)
 }
 
 fn unread() -> Loaded
@@ -40,10 +41,10 @@ fn unread() -> Loaded
 
 // A read that fails looks like the end of the file to `read_full`, so where the buffer is not full the end is asked for. A
 // directory opens, and fails here.
-pub(crate) fn load_open(file: i32, buffer: &mut [u8]) -> Loaded
+pub(crate) fn load_open<F: Read>(file: &mut F, buffer: &mut [u8]) -> Loaded
     ensures { IsPrefixLen result.len buffer.new }
 {
-    let len = io::read_full(file, buffer);
+    let len = read_full(file, buffer);
     if len == buffer.len() {
         return Loaded { ok: true, len };
     }
@@ -51,7 +52,31 @@ pub(crate) fn load_open(file: i32, buffer: &mut [u8]) -> Loaded
     Loaded { ok, len }
 }
 
-fn at_end(file: i32) -> bool {
+// Reads until the buffer is full, the file ends or a read fails; how many bytes the buffer begins with then.
+pub(crate) fn read_full<F: Read>(file: &mut F, buffer: &mut [u8]) -> usize
+    ensures { IsPrefixLen result buffer.new }
+{
+    let mut done = 0;
+    while done < buffer.len() {
+        let n = read_some(file, &mut buffer[done..]);
+        if n == 0 {
+            break;
+        }
+        done += n;
+    }
+    done
+}
+
+fn read_some<F: Read>(file: &mut F, buffer: &mut [u8]) -> usize
+    ensures { result ≤ length buffer.new }
+{
+    match file.read(buffer) {
+        Ok(n) => n,
+        Err(_) => 0,
+    }
+}
+
+fn at_end<F: Read>(file: &mut F) -> bool {
     let mut byte = [0u8; 1];
-    libc::read(file, &mut byte) == 0
+    matches!(file.read(&mut byte), Ok(0))
 }

@@ -1,5 +1,5 @@
 // On standard error, what the report's one line `cannot write` has no room for: a name, and what became of it.
-use libc::STDERR_FILENO;
+const STDERR: i32 = 2;
 
 pub fn unfinished(name: &[u8]) {
     line(name, b": unfinished, and could not be removed\n");
@@ -17,7 +17,7 @@ pub fn not_synced(name: &[u8]) {
 }
 
 fn line(name: &[u8], words: &[u8]) {
-    io::write_all(STDERR_FILENO, b"cantuvesh: ");
-    io::write_all(STDERR_FILENO, name);
-    io::write_all(STDERR_FILENO, words);
+    io::write_all(STDERR, b"cantuvesh: ");
+    io::write_all(STDERR, name);
+    io::write_all(STDERR, words);
 }

@@ -1,13 +1,19 @@
-// What the system knows of an open file, and how long it lets a file become.
-//
-// C fills a struct for each. The borrow checker covers no reference to a struct, so `stat_filled` and `limit_filled` alone have one, and
-// their proofs are the walk of proofs/Lent.antt. A call that fails leaves the struct blank, and a blank says "no file" and "not one byte".
-use libc::types::{rlimit, stat, timespec};
+// What the system is asked for: a file by its name, what it knows of an open one, and how long it lets a file become.
+use crate::limit::limit_in;
+use crate::read::read_full;
+use std::fs;
+use std::fs::{File, OpenOptions};
+use std::io::Result;
+use std::os::unix::fs::{MetadataExt, OpenOptionsExt};
+use std::random::RandomSource;
+use std::rt::Files;
 
-// getrlimit's number for the size of a file; the crate libc has no name for it.
-const RLIMIT_FSIZE: i32 = 1;
+// The system's files, and random bytes for names that are free.
+pub trait Disk: Files<File = File> + RandomSource {}
 
-// What is kept where a file takes the place of another, and how many names it has.
+impl<R: Files<File = File> + RandomSource> Disk for R {}
+
+// What is kept where a file takes the place of another, and how many names it has. A blank says "no file".
 #[derive(Drop)]
 pub struct Standing {
     pub mode: u32,
@@ -16,61 +22,72 @@ pub struct Standing {
     pub links: u64,
 }
 
-pub fn known_of(file: i32) -> Standing {
-    let known = stat_filled(file, blank_stat());
+pub fn known_of(file: &File) -> Standing {
+    match file.metadata() {
+        Ok(known) => Standing {
+            mode: known.mode(),
+            owner: known.uid(),
+            group: known.gid(),
+            links: known.nlink(),
+        },
+        Err(_) => blank(),
+    }
+}
+
+fn blank() -> Standing {
     Standing {
-        mode: known.st_mode,
-        owner: known.st_uid,
-        group: known.st_gid,
-        links: known.st_nlink,
+        mode: 0,
+        owner: 0,
+        group: 0,
+        links: 0,
     }
 }
 
-// Whether the process may write a file of this length. Beyond it the system ends the process, or fails each write.
-pub fn allows(length: usize) -> bool {
-    let blank = rlimit {
-        rlim_cur: 0,
-        rlim_max: 0,
-    };
-    let limit = limit_filled(RLIMIT_FSIZE, blank);
-    length as u64 <= limit.rlim_cur
-}
-
-fn stat_filled(file: i32, blank: stat) -> stat {
-    let mut known = blank;
-    libc::fstat(file, &mut known);
-    known
-}
-
-fn limit_filled(resource: i32, blank: rlimit) -> rlimit {
-    let mut known = blank;
-    libc::getrlimit(resource, &mut known);
-    known
-}
-
-fn blank_stat() -> stat {
-    stat {
-        st_dev: 0,
-        st_ino: 0,
-        st_nlink: 0,
-        st_mode: 0,
-        st_uid: 0,
-        st_gid: 0,
-        __pad: 0,
-        st_rdev: 0,
-        st_size: 0,
-        st_blksize: 0,
-        st_blocks: 0,
-        st_atim: never(),
-        st_mtim: never(),
-        st_ctim: never(),
-        __unused: [0; 3],
+// Whether the process may write a file of this length. Beyond it the system ends the process, or fails each write. Where it tells no
+// limit, there is none.
+pub fn allows<R: Files>(rt: &R, length: usize) -> bool {
+    match limit(rt) {
+        Some(most) => length as u64 <= most,
+        None => true,
     }
 }
 
-fn never() -> timespec {
-    timespec {
-        tv_sec: 0,
-        tv_nsec: 0,
-    }
+fn limit<R: Files>(rt: &R) -> Option<u64> {
+    let mut text = io::buffer();
+    let mut file = open_read(rt, b"/proc/self/limits").ok()?;
+    let n = read_full(&mut file, &mut text);
+    limit_in(&text[..n])
+}
+
+pub fn open_read<R: Files>(rt: &R, name: &[u8]) -> Result<R::File> {
+    File::open(rt, paths::text(name)?)
+}
+
+// Each write lands at the end.
+pub fn open_append<R: Files>(rt: &R, name: &[u8]) -> Result<R::File> {
+    OpenOptions::new().append(true).open(rt, paths::text(name)?)
+}
+
+pub fn open_update<R: Files>(rt: &R, name: &[u8]) -> Result<R::File> {
+    OpenOptions::new()
+        .read(true)
+        .write(true)
+        .open(rt, paths::text(name)?)
+}
+
+// A new file, open for writing. The system narrows the mode.
+pub fn create<R: Files>(rt: &R, name: &[u8], mode: u32) -> Result<R::File> {
+    OpenOptions::new()
+        .write(true)
+        .create_new(true)
+        .mode(mode)
+        .open(rt, paths::text(name)?)
+}
+
+pub fn rename<R: Files>(rt: &R, from: &[u8], to: &[u8]) -> Result<()> {
+    fs::rename(rt, paths::text(from)?, paths::text(to)?)
+}
+
+pub fn remove<R: Files>(rt: &R, name: &[u8]) -> Result<()> {
+    fs::remove_file(rt, paths::text(name)?)
 }

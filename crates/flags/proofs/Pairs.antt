@@ -19,7 +19,6 @@ use Rattle.named.specs.declared.Span.{Span}
 use Rattle.named.specs.declared.Name.{Name}
 use Rattle.named.specs.declared.Name.TheVariants.{Choice, Trace, Table, Levels, Statistics, Share, Out}
 use Rattle.flags.specs.declared.Plan.{Plan}
-use Rattle.flags.specs.declared.Plan.TheVariants as Plan
 use Rattle.named.specs.declared.names.Found.{Found}
 use Rattle.named.specs.declared.names.Found.TheVariants.{Is, Unknown}
 use Rattle.flags.specs.declared.given.Given.{Given}

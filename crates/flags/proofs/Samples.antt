@@ -3,7 +3,7 @@ use Prim.Native.String.{String}
 use mathlib.Core.Path.{◌≡◌, refl}
 use mathlib.Core.Option.{none, some}
 use lib.IntN.{pos, negsuc}
-use Rattle.octets.specs.Octets.{index_of, index_after}
+use Rattle.octets.specs.Octets.{index_of}
 use Rattle.paper.specs.Text.{bytes_of, is_same}
 use Rattle.paper.specs.Forms.{is_digit, digits_from, unled, has_minus, signed, at_most}
 use Rattle.forms.specs.Sizes.{whole_part}

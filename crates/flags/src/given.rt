@@ -5,7 +5,7 @@ ghost use Rattle.flags.specs.Parts.{no_spans, span_of, with_span, filled};
 use named::{Name, Span};
 
 // No good value is empty, and so an empty span stands for a name that was not given.
-#[derive(Drop)]
+#[derive(Clone, Copy)]
 pub(crate) struct Given {
     pub choice: Span,
     pub trace: Span,

@@ -5,6 +5,8 @@
 //
 // Nothing has a default, and nothing is stepped over. The line's words stand apart by a separator: the program joins its arguments with
 // a zero byte, which no argument has in it, and a case of the gate is a line with spaces.
+#![tactic(auto)]
+
 mod asking;
 mod given;
 mod turn;
@@ -18,7 +20,7 @@ use paper::Asked;
 use turn::Turn;
 
 // What is asked for: the files by their names, and whether the written trace is wanted.
-#[derive(Drop)]
+#[derive(Clone, Copy)]
 pub struct Wishes {
     pub asked: Asked,
     pub trace: Span,
@@ -28,7 +30,7 @@ pub struct Wishes {
 }
 
 // A word that is bad, a name that is missing, or what is asked for.
-#[derive(Drop)]
+#[derive(Clone, Copy)]
 pub enum Plan {
     Bad(Span),
     Missing(Name),

@@ -8,7 +8,7 @@ use crate::given::Given;
 use named::{Found, Name, Span};
 
 // What a pair comes to.
-#[derive(Drop)]
+#[derive(Clone, Copy)]
 pub(crate) enum Turn {
     Bad,
     Next(Given),

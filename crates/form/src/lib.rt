@@ -1,5 +1,7 @@
 // One field read: document 01, "Whole number" and "Time". What the forms mean is the crate paper's to say (specs/Forms.antt); here
 // stands the code that reads them, and its public functions take anything.
+#![tactic(auto)]
+
 mod read;
 
 ghost use Rattle.std.specs.Prelude.{◌≡◌};

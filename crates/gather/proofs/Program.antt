@@ -10,10 +10,8 @@ use Rattle.paper.specs.Merging.{merged_of}
 use Rattle.paper.specs.declared.Joint.{Joint}
 use Rattle.paper.specs.declared.Merged.{Merged}
 use Rattle.arguments.specs.declared.Plan.{Plan}
-use Rattle.arguments.specs.declared.Plan.TheVariants as Plan
 use Rattle.arguments.specs.Arguments.{plan_of}
 use Rattle.report.specs.declared.Replied.{Replied}
-use Rattle.report.specs.declared.Replied.TheVariants as Replied
 use Rattle.decided.specs.Decided.{after_merging}
 use Rattle.files.specs.File.{file_of}
 use Rattle.files.specs.Told.{ByStored, ByFiles}

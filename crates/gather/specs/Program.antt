@@ -6,13 +6,11 @@ use Rattle.paper.specs.Columns.{nowhere}
 use Rattle.paper.specs.Merging.{join, merged_of}
 use Rattle.paper.specs.declared.Fault.TheVariants as Fault
 use Rattle.paper.specs.declared.Joint.{Joint}
-use Rattle.paper.specs.declared.Joint.TheVariants as Joint
 use Rattle.paper.specs.declared.Which.TheVariants.{Neither}
 use Rattle.arguments.specs.declared.Plan.{Plan}
 use Rattle.arguments.specs.declared.Plan.TheVariants.{BadChoice, TooMany, Unnamed, Judge}
 use Rattle.arguments.specs.Arguments.{plan_of}
 use Rattle.report.specs.declared.Replied.{Replied}
-use Rattle.report.specs.declared.Replied.TheVariants as Replied
 use Rattle.decided.specs.Decided.{after_merging}
 
 -- ---- the merging

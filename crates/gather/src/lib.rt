@@ -1,6 +1,8 @@
 // The program `merge CHOICE FIRST SECOND OUT`, which merges the traces of two nodes. What it says is a function of its arguments, of what
 // its files hold and of whether OUT could be written (specs/Program.antt); the functions here ask the system for these and print what is
 // said. OUT is touched only where the two traces are merged.
+#![tactic(auto)]
+
 mod print;
 mod traces;
 
@@ -10,22 +12,25 @@ ghost use Rattle.files.specs.Told.{ByFiles};
 ghost use Rattle.gather.specs.Program.{bad_choice, on_files, replied_of};
 
 use arguments::Plan;
+use files::Disk;
 use paper::{Fault, Joint, Merged, Which};
 use report::Replied;
+use std::rt::Env;
 
 // The whole program. An argument that is missing or longer than any name is handed on as an empty one, which is no choice and no
 // file's name.
-pub fn run() {
+pub fn run<R: Disk + Env>(rt: &R) {
     let mut choice = [0u8; 1];
     let mut first = io::buffer();
     let mut second = io::buffer();
     let mut out = io::buffer();
-    let c = os::arg(1, &mut choice);
-    let f = os::arg(2, &mut first);
-    let s = os::arg(3, &mut second);
-    let o = os::arg(4, &mut out);
+    let c = invocation::argument(rt, 1, &mut choice);
+    let f = invocation::argument(rt, 2, &mut first);
+    let s = invocation::argument(rt, 3, &mut second);
+    let o = invocation::argument(rt, 4, &mut out);
     perform(
-        os::arg_count(),
+        rt,
+        invocation::count(rt),
         &choice[..c],
         &first[..f],
         &second[..s],
@@ -34,20 +39,34 @@ pub fn run() {
 }
 
 // What the program does with its arguments. Their count has the program's own name in it.
-pub fn perform(count: usize, choice: &[u8], first: &[u8], second: &[u8], out: &[u8]) {
-    let replied = performed(count, choice, first, second, out);
+pub fn perform<R: Disk>(
+    rt: &R,
+    count: usize,
+    choice: &[u8],
+    first: &[u8],
+    second: &[u8],
+    out: &[u8],
+) {
+    let replied = performed(rt, count, choice, first, second, out);
     print::reply(replied);
 }
 
 // All but the printing. Where OUT is not named, its name is the empty one, and that is found out when it is to be written.
-fn performed(count: usize, choice: &[u8], first: &[u8], second: &[u8], out: &[u8]) -> Replied
+fn performed<R: Disk>(
+    rt: &R,
+    count: usize,
+    choice: &[u8],
+    first: &[u8],
+    second: &[u8],
+    out: &[u8],
+) -> Replied
     ensures { ByFiles (replied_of count choice.now) result }
 {
     match arguments::planned(count, choice) {
         Plan::BadChoice => Replied::Refused(bad_choice()),
         Plan::TooMany => Replied::TooMany,
         Plan::Unnamed => Replied::CannotRead,
-        Plan::Judge(choice, _) => merge_files(choice, first, second, out),
+        Plan::Judge(choice, _) => merge_files(rt, choice, first, second, out),
     }
 }
 
@@ -65,15 +84,15 @@ fn trace_buffer() -> [u8; 65537]
 }
 
 // The files by their names.
-fn merge_files(choice: u32, first: &[u8], second: &[u8], out: &[u8]) -> Replied
+fn merge_files<R: Disk>(rt: &R, choice: u32, first: &[u8], second: &[u8], out: &[u8]) -> Replied
     ensures { ByFiles (on_files choice) result }
 {
     let mut one = trace_buffer();
     let mut other = trace_buffer();
-    let a = files::load(first, &mut one);
+    let a = files::load(rt, first, &mut one);
     let read = a.ok;
-    let b = files::load_behind(read, second, &mut other);
+    let b = files::load_behind(rt, read, second, &mut other);
     let n = a.len;
     let m = b.len;
-    traces::of_both(choice, read, &one[..n], b.ok, &other[..m], out)
+    traces::of_both(rt, choice, read, &one[..n], b.ok, &other[..m], out)
 }

@@ -5,6 +5,7 @@ ghost use Rattle.files.specs.Told.{ByStored};
 ghost use Rattle.gather.specs.Program.{on_traces, on_files};
 ghost use Rattle.gather.specs.Joined.{JoinedInto};
 
+use files::Disk;
 use paper::Joint;
 use report::Replied;
 
@@ -15,18 +16,25 @@ fn join_into<'a>(choice: u32, first: &'a [u8], second: &'a [u8], room: &mut [u8;
 }
 
 // Only what was merged goes to its file.
-fn concluded<'a>(choice: u32, first: &'a [u8], second: &'a [u8], out: &[u8]) -> Replied
+fn concluded<'a, R: Disk>(
+    rt: &R,
+    choice: u32,
+    first: &'a [u8],
+    second: &'a [u8],
+    out: &[u8],
+) -> Replied
     ensures { ByStored (on_traces choice first.now second.now) result }
 {
     let mut room = io::large_buffer();
     let joint = join_into(choice, first, second, &mut room);
     let merged = merging::told(joint);
     let n = merged.written as usize;
-    let stored = files::store_asked(merged.number == 0, out, &room[..n]);
+    let stored = files::store_asked(rt, merged.number == 0, out, &room[..n]);
     decided::after_merging(joint, merged, stored)
 }
 
-pub(crate) fn of_both<'a>(
+pub(crate) fn of_both<'a, R: Disk>(
+    rt: &R,
     choice: u32,
     read: bool,
     first: &'a [u8],
@@ -42,5 +50,5 @@ pub(crate) fn of_both<'a>(
     if !got {
         return Replied::CannotRead;
     }
-    concluded(choice, first, second, out)
+    concluded(rt, choice, first, second, out)
 }

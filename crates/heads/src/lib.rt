@@ -1,4 +1,6 @@
 // The line that is next in a trace of which some is merged: where it stands, and its timestamp; and which of two goes.
+#![tactic(auto)]
+
 ghost use Rattle.std.specs.Prelude.{◌≡◌};
 ghost use Rattle.std.specs.Int.Signed.{le_z};
 ghost use Rattle.paper.specs.Merging.{stamp_of};
@@ -7,7 +9,7 @@ ghost use Rattle.heads.specs.Heads.{HeadAt};
 use field::{Form, Got};
 
 // The line is s[from..to], with its LF.
-#[derive(Drop)]
+#[derive(Clone, Copy)]
 pub struct Head {
     pub from: usize,
     pub to: usize,

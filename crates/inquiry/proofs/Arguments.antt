@@ -10,7 +10,6 @@ use Rattle.paper.specs.declared.Asked.{Asked}
 use Rattle.paper.specs.declared.Fault.TheVariants as Fault
 use Rattle.answer.specs.Answers.{refusal}
 use Rattle.arguments.specs.declared.Plan.{Plan}
-use Rattle.arguments.specs.declared.Plan.TheVariants as Plan
 use Rattle.arguments.specs.Arguments.{plan_of, choice_and_share}
 use Rattle.named.specs.Values.{share_of}
 use Rattle.report.specs.declared.Said.TheVariants as Said

@@ -26,7 +26,6 @@ use Rattle.inquiry.specs.Arguments.{start_of}
 use Rattle.inquiry.specs.Program.{TextInto, on_table, on_files, on_start, said_of}
 use Rattle.showing.specs.declared.Shows.{Shows}
 use Rattle.inquiry.specs.declared.begun.Start.{Start}
-use Rattle.inquiry.specs.declared.begun.Start.TheVariants as Start
 
 -- ---- the files
 

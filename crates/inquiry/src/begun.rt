@@ -7,7 +7,7 @@ use paper::{Asked, Fault};
 use report::Said;
 use showing::Shows;
 
-#[derive(Drop)]
+#[derive(Clone, Copy)]
 pub(crate) enum Start {
     Ended(Said),
     Judge(Asked),

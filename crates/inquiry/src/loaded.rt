@@ -7,6 +7,7 @@ ghost use Rattle.inquiry.specs.Program.{TextInto, on_files};
 use decided::Readiness;
 use paper::Asked;
 use showing::Shows;
+use std::rt::Files;
 
 // Of a file that is too long one byte too many is read, which tells.
 fn trace_buffer() -> [u8; 65537]
@@ -49,7 +50,8 @@ fn of_bytes(
 }
 
 // The files by their names.
-pub(crate) fn of_names(
+pub(crate) fn of_names<R: Files>(
+    rt: &R,
     shows: Shows,
     asked: Asked,
     trace: &[u8],
@@ -61,9 +63,9 @@ pub(crate) fn of_names(
 {
     let mut bytes = trace_buffer();
     let mut held = table_buffer();
-    let first = files::load(trace, &mut bytes);
+    let first = files::load(rt, trace, &mut bytes);
     let read = first.ok;
-    let second = files::load_behind(read, table, &mut held);
+    let second = files::load_behind(rt, read, table, &mut held);
     let n = first.len;
     let m = second.len;
     of_bytes(

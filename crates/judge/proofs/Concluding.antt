@@ -14,7 +14,7 @@ use lib.Dec.{T, ltb, leb}
 use borrow.Author.Tests.{lt-ltb, le-ltb, le-leb}
 use Rattle.paper.specs.Columns.{nowhere}
 use Rattle.paper.specs.Answer.{Inputs, Found, stopped, found, given, most, reach, conclude, judge, accepted, originals, on_written, written, refused}
-use Rattle.paper.specs.Clock.{Waits, listed, same, time_at}
+use Rattle.paper.specs.Clock.{Waits, same, time_at}
 use Rattle.paper.specs.Numbers.{number_of}
 use Rattle.paper.specs.Matching.{waits_of, entry_at}
 use Rattle.paper.specs.Reading.{Reading, read_of, lines_of}
@@ -23,7 +23,6 @@ use Rattle.paper.specs.declared.Answer.{Answer}
 use Rattle.paper.specs.declared.Entry.{Entry}
 use Rattle.paper.specs.declared.Fault.{Fault}
 use Rattle.paper.specs.declared.Site.{Site}
-use Rattle.paper.specs.declared.Fault.TheVariants as Fault
 use Rattle.paper.specs.declared.Stop.TheVariants.{End}
 use Rattle.rounds.specs.Meaning as rounds
 use Rattle.rounds.proofs.Lists.{same_equal, equal_same}
@@ -39,7 +38,7 @@ use Rattle.reach.specs.Reach.{Held, reaches}
 use Rattle.reach.proofs.Means.{Means, found_means}
 use Rattle.writing.specs.Outcome.{WrittenInto}
 use Rattle.writing.specs.declared.Written.{Written}
-use Rattle.writing.specs.declared.Written.TheVariants.{Length, NoRoom}
+use Rattle.writing.specs.declared.Written.TheVariants.{Length}
 use Rattle.writing.proofs.Faithful.{Fits, bytes_written}
 use Rattle.writing.proofs.Outcomes.{Tells, wrote, no_room, misfit, told}
 use Rattle.answer.specs.declared.Counts.{Counts}

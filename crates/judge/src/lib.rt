@@ -1,6 +1,8 @@
 // The judging call: a trace, a latency table and what the caller names in, the answer out, with the corrected times and, if asked
 // for, the corrected trace in what the caller lent. Refusals come in the paper's order: how far the call comes is said by crate
 // seek, 16 and acceptance stand in conclude.rt. Nothing lent is touched before all of them are decided.
+#![tactic(auto)]
+
 mod conclude;
 
 ghost use Rattle.std.specs.Prelude.{◌≡◌};

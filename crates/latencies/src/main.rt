@@ -1,4 +1,6 @@
 // The program: all of it is in the crate tables.
-fn main() {
-    tables::run();
+#![tactic(auto)]
+
+fn main(rt: HostRuntime) {
+    tables::run(&rt);
 }

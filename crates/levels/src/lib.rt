@@ -1,5 +1,7 @@
 // 17: whether each processor that has listed records was traced at the levels that the caller expects, as its last mark tells. The store
 // is gone over once, and then the processors.
+#![tactic(auto)]
+
 mod expected;
 mod mark;
 

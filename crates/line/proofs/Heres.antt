@@ -16,12 +16,9 @@ use Rattle.reading.specs.Places.{line_at}
 use Rattle.reading.specs.Rests.{fields_from}
 use Rattle.quick.specs.Lines.{Told, OpensAt, BeginsAt, DataAt, HoldsAt}
 use Rattle.quick.specs.declared.Begins.{Begins}
-use Rattle.quick.specs.declared.Begins.TheVariants as Begins
 use Rattle.quick.specs.declared.Holds.{Holds}
-use Rattle.quick.specs.declared.Holds.TheVariants as Holds
 use Rattle.tail.specs.Ends.{EndsAt}
 use Rattle.tail.specs.declared.Ends.{Ends}
-use Rattle.tail.specs.declared.Ends.TheVariants as Ends
 use Rattle.line.specs.declared.Quick.{Quick}
 use Rattle.line.specs.declared.Quick.TheVariants.{Of, Doubt}
 use Rattle.line.specs.Quick.{QuickAt, RestAt}

@@ -15,7 +15,6 @@ use Rattle.paper.specs.declared.Data.TheVariants.{Three, Others}
 use Rattle.paper.specs.declared.Values.{Values}
 use Rattle.paper.specs.declared.Values.TheVariants.{Good, Bad}
 use Rattle.paper.specs.declared.Role.{Role}
-use Rattle.paper.specs.declared.Role.TheVariants as Role
 use Rattle.paper.specs.declared.Part.{Part}
 use Rattle.paper.specs.declared.Part.TheVariants.{Neither, Sends, Receives}
 use Rattle.paper.specs.declared.Message.{Message}
@@ -26,7 +25,6 @@ use Rattle.paper.specs.declared.Line.TheVariants.{Refused, Listed}
 use Rattle.signed.specs.Naturals.{number_in}
 use Rattle.line.specs.Sorting.{note_of}
 use Rattle.line.specs.declared.listed.Note.{Note}
-use Rattle.line.specs.declared.listed.Note.TheVariants as Note
 use Rattle.signed.specs.Naturals.{size_of, natural_of}
 use Rattle.signed.specs.declared.Natural.{Natural}
 use Rattle.signed.specs.declared.Natural.TheVariants.{Of, Outside}

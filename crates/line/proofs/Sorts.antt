@@ -9,23 +9,18 @@ use native.Mathlib.Omega.{arith}
 use lib.ListN.{length, drop, length-drop}
 use lib.IntN.{ℤ}
 use lib.Dec.{ltb}
-use denote.Enum.Declared.{tag_of}
 use borrow.Author.Tests.{lt-ltb, le-ltb, ltb-true, ltb-false}
 use Rattle.paper.specs.Events.{listed_kind, is_statistics, standing_of, standing_for}
 use Rattle.paper.specs.Line.{good_end, unknown, step_over, unlisted, listed_line, sorted, six, begun, line_of, head_of}
 use Rattle.paper.specs.declared.Choice.{Choice}
 use Rattle.paper.specs.declared.Head.{Head}
 use Rattle.paper.specs.declared.Fault.{Fault}
-use Rattle.paper.specs.declared.Fault.TheVariants as Fault
 use Rattle.paper.specs.declared.Standing.{Standing}
-use Rattle.paper.specs.declared.Standing.TheVariants as Standing
 use Rattle.paper.specs.declared.Spot.TheVariants.{Field}
 use Rattle.paper.specs.declared.Line.TheVariants.{Refused}
-use Rattle.paper.specs.contracts.Standing.{the_type}
 use Rattle.field.specs.Cursor.{rest_at, Tells}
 use Rattle.fields.specs.Cursor.{begun_of, begun_next}
 use Rattle.fields.specs.declared.Opening.{Opening}
-use Rattle.fields.specs.declared.Opening.TheVariants as Opening
 use Rattle.line.specs.Sorting.{standing_in}
 
 -- ---- the end of an unlisted line
@@ -91,15 +86,11 @@ module _ (choice : Choice) (h : Head) (fields : Option (List ℕ)) where
   unfolding unlisted
   end_bad e = rw e
 
-  -- the two standings of a listed line, by their places among the four
-  pub listed_as : (s : Standing) → (tag_of the_type s ≡ 0) ⊎ (tag_of the_type s ≡ 1) → listed_line h fields ≡ sorted choice h fields s
+  -- the two standings of a listed line
+  pub listed_as : (s : Standing) → (s ≡ Standing.Listed) ⊎ (s ≡ Standing.Message) → listed_line h fields ≡ sorted choice h fields s
   unfolding sorted
-  listed_as Standing.Listed which = refl
-  listed_as Standing.Message which = refl
-  listed_as Standing.NotHandled (inl e) = absurd (omega arith)
-  listed_as Standing.NotHandled (inr e) = absurd (omega arith)
-  listed_as Standing.Unlisted (inl e) = absurd (omega arith)
-  listed_as Standing.Unlisted (inr e) = absurd (omega arith)
+  listed_as s (inl e) = rw e
+  listed_as s (inr e) = rw e
 
   pub by_standing : begun choice (six h fields) ≡ sorted choice h fields (standing_in h.kind h.event)
   unfolding begun standing_in sorted

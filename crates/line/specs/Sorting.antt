@@ -5,9 +5,7 @@ use Rattle.paper.specs.Events.{listed_kind, standing_for}
 use Rattle.paper.specs.declared.Message.{Message}
 use Rattle.paper.specs.declared.Role.{Role}
 use Rattle.paper.specs.declared.Standing.{Standing}
-use Rattle.paper.specs.declared.Standing.TheVariants as Standing
 use Rattle.line.specs.declared.listed.Cast.{Cast}
-use Rattle.line.specs.declared.listed.Cast.TheVariants as Cast
 use Rattle.line.specs.declared.listed.Note.{Note}
 use Rattle.line.specs.declared.listed.Note.TheVariants.{Of, Nothing}
 

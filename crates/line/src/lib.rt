@@ -1,5 +1,7 @@
 // One line to what it comes to: refused, passed over, or listed. A line is given without its LF, or by the place where it starts. A refusal
 // names the field that decides, and its column is looked for once, where that line is at hand.
+#![tactic(auto)]
+
 mod at;
 mod listed;
 mod sort;
@@ -13,7 +15,7 @@ use fields::Opening;
 use paper::{Choice, Line, Spot};
 
 // What the line that starts at a place of a trace comes to, and where the next one starts.
-#[derive(Drop)]
+#[derive(Clone, Copy)]
 pub enum Quick {
     Of(Line, usize),
     Doubt,

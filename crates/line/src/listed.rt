@@ -12,14 +12,14 @@ use paper::{Data, Fault, Head, Line, Message, Part, Record, Role, Spot, Values};
 use signed::Natural;
 
 // A message, or no message.
-#[derive(Drop)]
+#[derive(Clone, Copy)]
 pub(crate) enum Note {
     Of(Message),
     Nothing,
 }
 
 // A role, or none for a send or receive without its message.
-#[derive(Drop)]
+#[derive(Clone, Copy)]
 pub(crate) enum Cast {
     Of(Role),
     Nothing,

@@ -16,7 +16,7 @@ use Rattle.shown.specs.declared.Put.TheVariants.{At, NoRoom, NoTime}
 use Rattle.shown.proofs.Outcomes.{put_at, put_no_room, put_no_time}
 use Rattle.signed.specs.Codes.{code_of, decoded}
 use Rattle.signed.proofs.Codes.{even, odd, code_back}
-use Rattle.report.specs.Put.{Put, Short}
+use Rattle.report.specs.Put.{Short}
 use Rattle.report.specs.Report.{shown, named}
 use Rattle.report.proofs.Puts.{then}
 use Rattle.lines.specs.Parts.{stamp_shown, whole_shown}

@@ -1,5 +1,7 @@
 // The lines of the seventh change request as bytes: a message, by its send and its receive; and a record of the chain that moved a time,
 // with what it waits for. A line is put at the start of a room that holds every one.
+#![tactic(auto)]
+
 mod post;
 mod put;
 mod record;
@@ -12,7 +14,7 @@ ghost use Rattle.lines.specs.Lines.{LineInto, message_shown, step_shown};
 pub use record::stamped_at;
 
 // A listed record as the lines tell of it: where it stands, and its time before and after.
-#[derive(Drop)]
+#[derive(Clone, Copy)]
 pub struct Stamped {
     pub line: u64,
     pub processor: u64,
@@ -22,7 +24,7 @@ pub struct Stamped {
 
 // Why a record of a chain has its time: it is its original one, it waits for the record before it on its processor, keeps so many
 // microseconds of so many behind that one, which stands on such a line (change request 9), or waits for its send and so long.
-#[derive(Drop)]
+#[derive(Clone, Copy)]
 pub enum Cause {
     Original,
     Before,

@@ -1,6 +1,8 @@
 // The messages of an accepted trace, as far as the list of pairs is not touched: how far the call comes is said by crate seek, the
 // messages stand in lent numbers, two to a message, and the answer says how many of them the list is to be filled with. Who has
 // the list fills it from there, by `pair_of`.
+#![tactic(auto)]
+
 ghost use Rattle.std.specs.Prelude.{◌≡◌, length};
 ghost use Rattle.mail.specs.Mail.{pair_at};
 ghost use Rattle.paper.specs.Filling.{query};

@@ -1,4 +1,6 @@
 // The place of the listed record that stands on a line of the file.
+#![tactic(auto)]
+
 ghost use Rattle.std.specs.Prelude.{◌≡◌};
 ghost use Rattle.store.specs.Layout.{entries_in};
 ghost use Rattle.lookup.specs.Place.{place_from, place_on};

@@ -1,5 +1,7 @@
 // "each with its send's place and its receive's place, in file order of receives": the messages of a trace as numbers in a slice, two to a
 // message, and any one of them as a pair.
+#![tactic(auto)]
+
 ghost use Rattle.std.specs.Prelude.{◌≡◌, ◌/◌, ◌<◌, ◌≤◌, length};
 ghost use Rattle.paper.specs.Messages.{messages_to};
 ghost use Rattle.mail.specs.Mail.{pair_at, send_at, send_in, Noted, Holds};

@@ -1,4 +1,6 @@
 // The program: all of it is in the crate gather.
-fn main() {
-    gather::run();
+#![tactic(auto)]
+
+fn main(rt: HostRuntime) {
+    gather::run(&rt);
 }

@@ -14,7 +14,6 @@ use Rattle.paper.specs.declared.Both.{Both}
 use Rattle.paper.specs.declared.Both.TheVariants.{Apart, Unfit}
 use Rattle.paper.specs.declared.Choice.{Choice}
 use Rattle.paper.specs.declared.Fault.{Fault}
-use Rattle.paper.specs.declared.Fault.TheVariants as Fault
 use Rattle.paper.specs.declared.Joined.{Joined}
 use Rattle.paper.specs.declared.Joint.{Joint}
 use Rattle.paper.specs.declared.Joint.TheVariants.{Refused, Of}
@@ -29,7 +28,6 @@ use Rattle.forms.proofs.Tests.{never}
 use Rattle.reading.proofs.Lines.{few_lines}
 use Rattle.clearance.specs.Clearance.{heard_of}
 use Rattle.clearance.specs.declared.Heard.{Heard}
-use Rattle.clearance.specs.declared.Heard.TheVariants as Heard
 use Rattle.merges.specs.Parts.{alone}
 use Rattle.merges.proofs.Alone.{alone_reading, read_of, alone_ended, alone_counted}
 use Rattle.merges.proofs.Lines.{merged_length}

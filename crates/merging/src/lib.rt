@@ -1,6 +1,8 @@
 // Two traces merged into one: the other public call. "Refusal 1 comes first, then 4 to 12 of the first trace, then of the second, then 18,
 // line 0, .. then 16": what the traces come to by themselves is said by crate both, the merged bytes are put into the room by weave.rt, and
 // the room is not touched before all is decided. Both traces are lent for one lifetime, since a step hands back a part of either.
+#![tactic(auto)]
+
 mod weave;
 
 ghost use Rattle.std.specs.Prelude.{◌≡◌};

@@ -8,7 +8,7 @@ ghost use Rattle.merging.specs.Weave.{Within, Fits, chosen, Advanced, rest_put, 
 use heads::Head;
 
 // The heads of both traces.
-#[derive(Drop)]
+#[derive(Clone, Copy)]
 struct Way {
     a: Head,
     b: Head,

@@ -9,7 +9,6 @@ use lib.ListN.{length, get_or, drop}
 use Rattle.paper.specs.Columns.{whole_line}
 use Rattle.paper.specs.Matching.{entry_at, send_of, call_of, call_for, length_sent, on_call, matched_from}
 use Rattle.paper.specs.declared.Fault.{Fault}
-use Rattle.paper.specs.declared.Fault.TheVariants as Fault
 use Rattle.paper.specs.declared.Message.{Message}
 use Rattle.paper.specs.declared.Role.{Role}
 use Rattle.paper.specs.declared.Role.TheVariants.{Neither, Send, Receive}

@@ -1,5 +1,7 @@
 // The answer of the matching: the first receive that calls for 13 or 14, or how many messages matched and how many sends were not
 // received.
+#![tactic(auto)]
+
 ghost use Rattle.std.specs.Prelude.{◌≡◌, ◌<◌, length};
 ghost use Rattle.paper.specs.Matching.{length_sent, matched_of, is_send, is_receive, matched_count, unreceived_count};
 ghost use Rattle.store.specs.Layout.{entries_in};
@@ -8,7 +10,7 @@ ghost use Rattle.message.specs.Outcome.{outcome, matching, answer_of, stop_at, o
 
 use paper::{Fault, Role, Site, Stop};
 
-#[derive(Drop)]
+#[derive(Clone, Copy)]
 pub enum Matching {
     // how many messages matched, and how many sends were not received
     Matched(usize, usize),

@@ -1,4 +1,6 @@
 // The program: all of it is in the crate inquiry.
-fn main() {
-    inquiry::show_messages();
+#![tactic(auto)]
+
+fn main(rt: HostRuntime) {
+    inquiry::show_messages(&rt);
 }

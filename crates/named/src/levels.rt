@@ -7,7 +7,7 @@ ghost use Rattle.named.specs.Parts.{cut, Within};
 use crate::{Span, words};
 use paper::Field;
 
-#[derive(Drop)]
+#[derive(Clone, Copy)]
 pub enum Wanted {
     Off,
     Expected(i64, i64, i64),

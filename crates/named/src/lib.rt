@@ -1,4 +1,6 @@
 // The words of a line of named arguments: where a word stands, whose name it is, and whether a value has its name's form.
+#![tactic(auto)]
+
 mod levels;
 mod names;
 mod share;
@@ -14,13 +16,13 @@ pub use values::{choice_of, is_forgotten, is_good};
 pub use words::word_at;
 
 // A part of a line.
-#[derive(Drop)]
+#[derive(Clone, Copy)]
 pub struct Span {
     pub from: usize,
     pub to: usize,
 }
 
-#[derive(Drop)]
+#[derive(Clone, Copy)]
 pub enum Name {
     Choice,
     Trace,

@@ -6,7 +6,7 @@ ghost use Rattle.named.specs.Parts.{found_in};
 use crate::Name;
 
 // Whose name a word is.
-#[derive(Drop)]
+#[derive(Clone, Copy)]
 pub enum Found {
     Is(Name),
     Unknown,

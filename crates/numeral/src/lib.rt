@@ -1,5 +1,7 @@
 // A number of 64 bits, written as document 01 has a whole number but for its size: a level that is expected may be any number, also one
 // that no field of a trace can hold.
+#![tactic(auto)]
+
 ghost use Rattle.std.specs.Prelude.{◌≤◌, ◌^◌, ◌≡◌, true, false};
 ghost use Rattle.paper.specs.Forms.{signed, digits_from, at_most};
 ghost use Rattle.forms.specs.Sizes.{number, AtMost, whole_part};

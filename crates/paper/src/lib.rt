@@ -12,7 +12,7 @@ pub const LONGEST: usize = 65536;
 // are asked for, the three that are expected then, in the order of a mark's data, whether the statistics records are compared, and how many
 // thousandths of the gap between two records of a processor are kept.
 #[repr(C)]
-#[derive(Drop)]
+#[derive(Clone, Copy)]
 pub struct Asked {
     pub choice: u32,
     pub levels: u32,
@@ -24,21 +24,21 @@ pub struct Asked {
 }
 
 // "strict or lenient"
-#[derive(Drop)]
+#[derive(Clone, Copy)]
 pub enum Choice {
     Strict,
     Lenient,
 }
 
 // What a field reads as: a whole number, or a time in signed microseconds.
-#[derive(Drop)]
+#[derive(Clone, Copy)]
 pub enum Field {
     Good(i64),
     Bad,
 }
 
 // The standing of an event type.
-#[derive(Drop)]
+#[derive(Clone, Copy)]
 pub enum Standing {
     Listed,
     Message,
@@ -48,7 +48,7 @@ pub enum Standing {
 
 // Why something is refused: a case for each row of the paper's table of numbers, from 1 to 16, then 17 of the first change request, 18 of
 // the sixth, 19 of the eighth and 22 of the seventh.
-#[derive(Drop)]
+#[derive(Clone, Copy)]
 pub enum Fault {
     BadChoice,
     WrongLength,
@@ -73,7 +73,7 @@ pub enum Fault {
 }
 
 // The six fields that every record begins with.
-#[derive(Drop)]
+#[derive(Clone, Copy)]
 pub struct Head {
     pub kind: i64,
     pub event: i64,
@@ -84,7 +84,7 @@ pub struct Head {
 }
 
 // The data of a listed record, as far as anything depends on them once it is read: three whole numbers, or anything else.
-#[derive(Drop)]
+#[derive(Clone, Copy)]
 pub enum Data {
     Three(i64, i64, i64),
     Others,
@@ -92,14 +92,14 @@ pub enum Data {
 
 // What the fields behind the six read as in a listed record: its data, or the field that is bad, missing or too many. The fields of a
 // line are counted from 0.
-#[derive(Drop)]
+#[derive(Clone, Copy)]
 pub enum Values {
     Good(Data),
     Bad(usize),
 }
 
 // What a record is by its record type and event type.
-#[derive(Drop)]
+#[derive(Clone, Copy)]
 pub enum Part {
     Neither,
     Sends,
@@ -107,7 +107,7 @@ pub enum Part {
 }
 
 // The three data of a send or of a receive. The peer is a send's destination and a receive's source.
-#[derive(Drop)]
+#[derive(Clone, Copy)]
 pub struct Message {
     pub length: u64,
     pub tag: i64,
@@ -115,7 +115,7 @@ pub struct Message {
 }
 
 // What a listed record is among the messages.
-#[derive(Drop)]
+#[derive(Clone, Copy)]
 pub enum Role {
     Neither,
     Send(Message),
@@ -123,7 +123,7 @@ pub enum Role {
 }
 
 // A listed record: what its line says of it, and what it is among the messages.
-#[derive(Drop)]
+#[derive(Clone, Copy)]
 pub struct Record {
     pub time: i64,
     pub processor: usize,
@@ -134,21 +134,21 @@ pub struct Record {
 }
 
 // A listed record with its line in the file.
-#[derive(Drop)]
+#[derive(Clone, Copy)]
 pub struct Entry {
     pub line: usize,
     pub body: Record,
 }
 
 // What decides in a line that is refused: one of its fields, or none of them.
-#[derive(Drop)]
+#[derive(Clone, Copy)]
 pub enum Spot {
     Field(usize),
     Whole,
 }
 
 // What a line comes to.
-#[derive(Drop)]
+#[derive(Clone, Copy)]
 pub enum Line {
     Refused(Fault, Spot),
     Passed,
@@ -156,14 +156,14 @@ pub enum Line {
 }
 
 // Where a call is refused: the line and the column, both counted from 1, and 0 where none is meant.
-#[derive(Drop)]
+#[derive(Clone, Copy)]
 pub struct Site {
     pub line: usize,
     pub column: usize,
 }
 
 // Where a reading ends: at the end of what there is, or at the place that is refused.
-#[derive(Drop)]
+#[derive(Clone, Copy)]
 pub enum Stop {
     End,
     At(Fault, Site),
@@ -171,7 +171,7 @@ pub enum Stop {
 
 // What the caller gets back, laid out as C has it.
 #[repr(C)]
-#[derive(Drop)]
+#[derive(Clone, Copy)]
 pub struct Answer {
     pub number: u64,
     pub line: u64,
@@ -186,7 +186,7 @@ pub struct Answer {
 }
 
 // Which of two traces a merging means.
-#[derive(Drop)]
+#[derive(Clone, Copy)]
 pub enum Which {
     Neither,
     First,
@@ -194,7 +194,7 @@ pub enum Which {
 }
 
 // What was counted of a trace that is merged with another.
-#[derive(Drop)]
+#[derive(Clone, Copy)]
 pub struct Tally {
     pub listed: u64,
     pub passed: u64,
@@ -202,14 +202,14 @@ pub struct Tally {
 
 // What two traces come to that are read one after the other: neither is refused and no processor has a listed record in both, or the
 // refusal and which trace it means.
-#[derive(Drop)]
+#[derive(Clone, Copy)]
 pub enum Both {
     Apart(Tally, Tally),
     Unfit(Fault, Which, Site),
 }
 
 // What two traces come to as one: its lines and bytes, and what was counted of either.
-#[derive(Drop)]
+#[derive(Clone, Copy)]
 pub struct Joined {
     pub lines: u64,
     pub written: u64,
@@ -218,7 +218,7 @@ pub struct Joined {
 }
 
 // What a merging comes to.
-#[derive(Drop)]
+#[derive(Clone, Copy)]
 pub enum Joint {
     Refused(Fault, Which, Site),
     Of(Joined),
@@ -226,7 +226,7 @@ pub enum Joint {
 
 // What the caller of a merging gets back, laid out as C has it.
 #[repr(C)]
-#[derive(Drop)]
+#[derive(Clone, Copy)]
 pub struct Merged {
     pub number: u64,
     pub which: u64,
@@ -237,7 +237,7 @@ pub struct Merged {
 
 // A message by the places of its send and of its receive, counted from 0, laid out as C has it.
 #[repr(C)]
-#[derive(Drop)]
+#[derive(Clone, Copy)]
 pub struct Pair {
     pub send: u64,
     pub receive: u64,
@@ -245,7 +245,7 @@ pub struct Pair {
 
 // What the caller of a call that fills a list gets back, laid out as C has it.
 #[repr(C)]
-#[derive(Drop)]
+#[derive(Clone, Copy)]
 pub struct Filled {
     pub number: u64,
     pub line: u64,

@@ -1,5 +1,7 @@
 // What a record is by its record type and its event type: whether the first is listed, whether it is that of statistics, and whether the record
 // is a send, a receive or neither. Each is a list of numbers: another event that becomes a message is a number more.
+#![tactic(auto)]
+
 ghost use Rattle.std.specs.Prelude.{◌≡◌, ◌&&◌};
 ghost use Rattle.paper.specs.Tests.{eq_z, one_of};
 ghost use Rattle.paper.specs.Events.{listed_kind, is_statistics};

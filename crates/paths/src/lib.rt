@@ -1,31 +1,52 @@
-// Names: whether one is a link, the folder that it stands in, and a name beside it.
-ghost use Rattle.std.specs.Prelude.{◌≤◌, length};
+// Names: the text that one is, whether it is a link, the folder that it stands in, and a name beside it.
+#![tactic(auto)]
+
+ghost use Rattle.std.specs.Prelude.{◌≤◌, length, ◌≡◌, ◌↔◌, IfOk, IsOk, IsUtf8, MatchOption, negsuc};
+ghost use Rattle.std.specs.IoError.{raw_os_error};
 ghost use Rattle.io.specs.Counts.{IsPrefixLen};
-ghost use Rattle.libc.specs.Io.{Ended};
 
-use libc::PATH_MAX;
+use std::fs;
+use std::io::{Error, Result};
+use std::rt::Files;
+use std::str::from_utf8;
 
-const LAST: usize = PATH_MAX - 1;
+const LAST: usize = 4095;
+
+// The system's numbers of errors.
+const EINVAL: i32 = 22;
+
+const EILSEQ: i32 = 84;
+
+// A name as the system is given it, which is text.
+pub fn text(name: &[u8]) -> Result<&str>
+    ensures bytes { IfOk result (λ path. path.now ≡ name.now) }
+    ensures found { IsOk result ↔ IsUtf8 name.now }
+{
+    match from_utf8(name) {
+        Ok(path) => Ok(path),
+        Err(_) => Err(Error::from_raw_os_error(EILSEQ)),
+    }
+}
+
+// The system's number of an error, or -1 where it gave none.
+pub fn number(error: Error) -> i32
+    ensures { MatchOption (raw_os_error error) (result ≡ negsuc 0) (λ code. result ≡ code) }
+{
+    error.raw_os_error().unwrap_or(-1)
+}
 
 // 0 where the name is a symbolic link, wherever that leads, and otherwise the error that says why not: EINVAL where something else
 // stands there, ENOENT where nothing does.
-pub fn link_error(name: &[u8]) -> i32 {
-    let path = ended(name);
-    let mut byte = [0u8; 1];
-    if libc::readlink(&path, &mut byte) < 0 {
-        return os::errno();
+pub fn link_error<R: Files>(rt: &R, name: &[u8]) -> i32 {
+    match is_link(rt, name) {
+        Ok(true) => 0,
+        Ok(false) => EINVAL,
+        Err(error) => number(error),
     }
-    0
 }
 
-// As C reads a name: as much of it as leaves room for a 0, and then zeros.
-fn ended(name: &[u8]) -> [u8; PATH_MAX]
-    ensures { Ended result }
-{
-    let mut path = io::buffer();
-    copy(name, &mut path, 0);
-    path[LAST] = 0;
-    path
+fn is_link<R: Files>(rt: &R, name: &[u8]) -> Result<bool> {
+    Ok(fs::symlink_metadata(rt, text(name)?)?.is_symlink())
 }
 
 // How much of a name is its folder, with the '/' at its end: 0 where it has none.
@@ -41,8 +62,8 @@ pub fn folder(name: &[u8]) -> usize
     end
 }
 
-// A name in the folder of another, for `os::create_temp` to make unique, at the start of a buffer; its length, or 0 where it does not
-// fit. It says whose it is and what it is, since a run that is killed leaves it behind.
+// A name in the folder of another, whose Xs are to be made letters under which nothing stands, at the start of a buffer; its length, or 0
+// where it does not fit. It says whose it is and what it is, since a run that is killed leaves it behind.
 pub fn beside(name: &[u8], buffer: &mut [u8]) -> usize
     ensures { IsPrefixLen result buffer.new }
 {

@@ -11,7 +11,7 @@ use lib.ListN.{length, take, drop, length-append, length-drop}
 use lib.Seq.{take-append-add, take-length}
 use lib.IntN.{ℤ, pos}
 use borrow.Author.Tests.{le-ltb}
-use Rattle.octets.specs.Octets.{index_of, index_after}
+use Rattle.octets.specs.Octets.{index_of}
 use Rattle.paper.specs.Text.{is_same}
 use Rattle.paper.specs.Forms.{whole_of, time_of, text_of, times_quoted, numbers_quoted}
 use Rattle.paper.specs.Line.{field, rest, goes_on, first, first_of}

@@ -18,7 +18,6 @@ use Rattle.reading.specs.Rests.{fields_from, end_from}
 use Rattle.quick.specs.declared.Begins.{Begins}
 use Rattle.quick.specs.declared.Begins.TheVariants.{Six, Doubt}
 use Rattle.quick.specs.declared.head.Counted.{Counted}
-use Rattle.quick.specs.declared.head.Counted.TheVariants as Counted
 use Rattle.quick.specs.Lines.{Told, CountAt, OpensAt, PlaceAt, BeginsAt}
 
 -- "Number of data fields: 0 to 999"

@@ -1,5 +1,5 @@
 -- A size behind its sign.
-use Prim.Native.Nat.{ℕ, zero, suc, ◌+◌, ◌-◌, ◌≤◌, ◌<◌}
+use Prim.Native.Nat.{ℕ, zero, suc, ◌+◌, ◌≤◌, ◌<◌}
 use mathlib.Core.Path.{◌≡◌, refl, sym, ap, subst, ◌∙◌}
 use mathlib.Core.List.{List, [], ◌∷◌, ◌++◌}
 use mathlib.Core.Bool.{Bool, true, false}
@@ -14,7 +14,6 @@ use borrow.Author.Tests.{ne_eqb, eqb-true, eqb-false}
 use Rattle.paper.specs.Forms.{has_minus, signed, behind_sign}
 use Rattle.forms.specs.Sizes.{AtMost}
 use Rattle.quick.specs.declared.digits.Sized.{Sized}
-use Rattle.quick.specs.declared.digits.Sized.TheVariants as Sized
 use Rattle.quick.specs.declared.number.Number.TheVariants.{Of, Doubt}
 use Rattle.quick.specs.Words.{SizeAt, NumberAt, start_at, Within, signed_by}
 use Rattle.quick.proofs.Runs.{here}

@@ -1,5 +1,5 @@
 -- The size of a whole number and of a time, from the digits that were read.
-use Prim.Native.Nat.{ℕ, ◌+◌, ◌-◌, ◌*◌, ◌≤◌}
+use Prim.Native.Nat.{ℕ, ◌+◌, ◌*◌, ◌≤◌}
 use mathlib.Core.Path.{◌≡◌, refl, sym, ap, subst, ◌∙◌}
 use mathlib.Core.List.{List, ◌∷◌, ◌++◌, append_assoc}
 use mathlib.Core.Option.{Option, some}
@@ -9,13 +9,10 @@ use lib.Seq.{take_at, drop-append-add, get_or_at}
 use Rattle.paper.specs.Forms.{whole_size, time_size}
 use Rattle.forms.specs.Sizes.{AtMost, whole_part}
 use Rattle.forms.specs.declared.Size.{Size}
-use Rattle.forms.specs.declared.Size.TheVariants as Size
 use Rattle.forms.proofs.Runs.{onward}
 use Rattle.forms.proofs.Wholes.{whole_short, part_range}
 use Rattle.forms.proofs.Times.{point_at, in_parts}
 use Rattle.quick.specs.declared.digits.Sized.{Sized}
-use Rattle.quick.specs.declared.digits.Sized.TheVariants as Sized
-use Rattle.quick.specs.declared.number.Number.TheVariants.{Of, Doubt}
 use Rattle.quick.specs.Words.{Word, SizeAt}
 use Rattle.quick.specs.Stamps.{Micros, MicrosAt}
 

@@ -14,7 +14,6 @@ use Rattle.paper.specs.Forms.{is_digit, whole_of, whole_size, text_of}
 use Rattle.paper.specs.declared.Field.{Field}
 use Rattle.forms.proofs.Texts.{same_self, same_means}
 use Rattle.quick.specs.declared.digits.Sized.{Sized}
-use Rattle.quick.specs.declared.digits.Sized.TheVariants as Sized
 use Rattle.quick.specs.declared.number.Number.{Number}
 use Rattle.quick.specs.declared.number.Number.TheVariants.{Of, Doubt}
 use Rattle.quick.specs.Words.{SizeAt, NumberAt, FieldAt, signed_by, Inside, stopped_by}

@@ -25,7 +25,6 @@ use Rattle.values.specs.Few.{Few}
 use Rattle.values.proofs.Values.{not_three, with_descriptor}
 use Rattle.values.proofs.Either.{nothing_due}
 use Rattle.quick.specs.declared.Holds.{Holds}
-use Rattle.quick.specs.declared.Holds.TheVariants as Holds
 use Rattle.quick.specs.Lines.{Told, in_form, last_of, DataAt, HoldsAt}
 
 -- values before those that are still to come

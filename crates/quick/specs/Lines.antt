@@ -13,13 +13,9 @@ use Rattle.field.specs.declared.Form.TheVariants.{Whole, Time, TimesQuoted, Numb
 use Rattle.reading.specs.Places.{line_at, next_line}
 use Rattle.reading.specs.Rests.{fields_from, end_from, Ended}
 use Rattle.quick.specs.declared.Begins.{Begins}
-use Rattle.quick.specs.declared.Begins.TheVariants as Begins
 use Rattle.quick.specs.declared.Holds.{Holds}
-use Rattle.quick.specs.declared.Holds.TheVariants as Holds
 use Rattle.quick.specs.declared.head.Counted.{Counted}
-use Rattle.quick.specs.declared.head.Counted.TheVariants as Counted
 use Rattle.quick.specs.declared.number.Number.{Number}
-use Rattle.quick.specs.declared.number.Number.TheVariants as Number
 
 -- ---- behind a field: the line has ended, or goes on
 

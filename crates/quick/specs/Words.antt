@@ -4,7 +4,6 @@ use Rattle.std.proofs.Math.Option.{Option, some}
 use Rattle.paper.specs.declared.Field.{Field}
 use Rattle.paper.specs.declared.Field.TheVariants.{Good}
 use Rattle.quick.specs.declared.digits.Sized.{Sized}
-use Rattle.quick.specs.declared.digits.Sized.TheVariants as Sized
 use Rattle.quick.specs.declared.number.Number.{Number}
 use Rattle.quick.specs.declared.number.Number.TheVariants.{Of, Doubt}
 

@@ -5,7 +5,7 @@ ghost use Rattle.forms.specs.Sizes.{whole_part};
 ghost use Rattle.quick.specs.Words.{SizeAt};
 
 // A number without its sign, and where it ends.
-#[derive(Drop)]
+#[derive(Clone, Copy)]
 pub(crate) enum Sized {
     Of(u64, usize),
     Doubt,

@@ -8,7 +8,7 @@ use paper::Head;
 use signed::Natural;
 
 // The number of data fields, whether the line ends with it, and where what follows starts.
-#[derive(Drop)]
+#[derive(Clone, Copy)]
 pub(crate) enum Counted {
     Of(usize, bool, usize),
     Doubt,

@@ -1,5 +1,7 @@
 // A line read by one cursor, where it stands in its trace: a number ends where its digits end, and neither the LF nor a space is looked for
 // beforehand. What is in doubt here is no answer: crate line, which goes step by step as document 01 does, has the last word on it.
+#![tactic(auto)]
+
 mod body;
 mod digits;
 mod head;
@@ -12,14 +14,14 @@ ghost use Rattle.quick.specs.Lines.{BeginsAt, HoldsAt};
 use paper::{Data, Head};
 
 // The six fields, whether the line ends with them, and where what follows starts: the next line, or else the field behind the space.
-#[derive(Drop)]
+#[derive(Clone, Copy)]
 pub enum Begins {
     Six(Head, bool, usize),
     Doubt,
 }
 
 // The data of a line that ends with them, and where the next line starts.
-#[derive(Drop)]
+#[derive(Clone, Copy)]
 pub enum Holds {
     Of(Data, usize),
     Doubt,

@@ -10,7 +10,7 @@ use crate::{digits, stamp};
 use field::Form;
 
 // A number, and where it ends; or, once the byte behind it was looked at, where what follows that byte starts.
-#[derive(Drop)]
+#[derive(Clone, Copy)]
 pub(crate) enum Number {
     Of(i64, usize),
     Doubt,

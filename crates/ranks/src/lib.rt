@@ -1,6 +1,8 @@
 // How many steps lead from each record back to one at its original time, at the fewest. From those records on, which have none, the steps are
 // gone back: whoever is led to a record by a step has one step more, unless fewer are known already. Each record is looked at once, in
 // the order of its steps, so that the work is linear whatever the steps are.
+#![tactic(auto)]
+
 mod seeds;
 mod spread;
 

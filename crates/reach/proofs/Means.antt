@@ -17,7 +17,6 @@ use Rattle.clearance.proofs.Clearing.{places_right, share_low}
 use Rattle.paper.specs.declared.Choice.{Choice}
 use Rattle.paper.specs.declared.Fault.{Fault}
 use Rattle.paper.specs.declared.Site.{Site}
-use Rattle.paper.specs.declared.Fault.TheVariants as Fault
 use Rattle.paper.specs.declared.Stop.{Stop}
 use Rattle.paper.specs.declared.Stop.TheVariants.{End, At}
 

@@ -27,9 +27,8 @@ use Rattle.trace.proofs.Into.{stop_is, listed_is, passed_is, few_listed, same_ca
 use Rattle.waits.proofs.Gaps.{gaps_narrow}
 use Rattle.solve.specs.Outcome.{Keepable, solved_by}
 use Rattle.solve.specs.declared.Solved.{Solved}
-use Rattle.solve.specs.declared.Solved.TheVariants as Solved
 use Rattle.reach.specs.declared.Reached.{Reached}
-use Rattle.reach.specs.declared.Reached.TheVariants.{Times, Refused, Misfit}
+use Rattle.reach.specs.declared.Reached.TheVariants.{Refused}
 use Rattle.clearance.specs.Clearance.{given_of}
 use Rattle.reach.specs.Reach.{reaches}
 use Rattle.reach.specs.Lines.{Sized, as_reached, SettledBy, levelled, Comparable, compared, from_lines}

@@ -13,7 +13,6 @@ use Rattle.paper.specs.declared.Fault.TheVariants as Fault
 use Rattle.paper.specs.declared.Stop.{Stop}
 use Rattle.paper.specs.declared.Stop.TheVariants.{End, At}
 use Rattle.solve.specs.declared.Solved.{Solved}
-use Rattle.solve.specs.declared.Solved.TheVariants as Solved
 use Rattle.solve.specs.Outcome.{solved_by}
 use Rattle.statistics.specs.Ready.{Holding}
 use Rattle.reach.specs.declared.Reached.{Reached}

@@ -1,5 +1,7 @@
 // How far a call comes: the refusals from 1 to 15, and 17 and 19, or the times. The records stay in the store, the places of their sends and their
 // times in two slices, for whatever ending the call has; nothing is looked at or touched that a caller gets to see.
+#![tactic(auto)]
+
 mod lines;
 
 ghost use Rattle.std.specs.Prelude.{◌≡◌, [], ◌∷◌, length};
@@ -12,7 +14,7 @@ use answer::Counts;
 use clearance::Cleared;
 use paper::{Asked, Fault, Site};
 
-#[derive(Drop)]
+#[derive(Clone, Copy)]
 pub enum Reached {
     // what was counted; the first places of the slices hold what belongs to the listed records
     Times(Counts),

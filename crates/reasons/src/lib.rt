@@ -1,4 +1,6 @@
 // The chain that moved a record as text, a line to each of its records, the asked one first.
+#![tactic(auto)]
+
 mod cause;
 mod single;
 

@@ -3,7 +3,7 @@ use Prim.Native.Nat.{ℕ, ◌+◌, ◌-◌, ◌≤◌}
 use mathlib.Core.Path.{◌≡◌, sym, ◌∙◌}
 use mathlib.Core.List.{List, [], ◌++◌, append-nil, append_assoc}
 use native.Mathlib.Omega.{arith}
-use lib.ListN.{length, take, drop, length-drop, length-take, length-append}
+use lib.ListN.{length, take, drop, length-drop, length-append}
 use lib.Seq.{take_all, take-length, drop-length, drop-drop, length-take-le, take_at, drop-append-add}
 use borrow.Rule.Slice.PartMut.{put_mid, post_of, Post-is}
 use Rattle.io.specs.Counts.{IsPrefixLen}

@@ -11,7 +11,6 @@ use Rattle.report.specs.Report.{named, numbered, place_shown}
 use Rattle.report.specs.Said.{said_shown}
 use Rattle.report.specs.declared.Said.TheVariants as Said
 use Rattle.report.specs.declared.Replied.{Replied}
-use Rattle.report.specs.declared.Replied.TheVariants as Replied
 
 -- a refusal, the trace that it means behind its number
 unfoldable pub unmerged_shown : Merged → List ℕ

@@ -1,5 +1,7 @@
 // The report as bytes: document 01, "The program's whole report, header and all" and "The other reports are ..", and the lines that are
 // the program's own; what the program says that makes a table of latencies; and what the one says that merges two traces.
+#![tactic(auto)]
+
 mod merged;
 mod put;
 
@@ -11,7 +13,7 @@ ghost use Rattle.report.specs.Replied.{RepliedInto};
 use paper::{Answer, Joined, Merged};
 
 // What the program says, and all that it says: an answer's report, or a line of its own.
-#[derive(Drop)]
+#[derive(Clone, Copy)]
 pub enum Said {
     Answered(Answer),
     CannotRead,
@@ -21,7 +23,7 @@ pub enum Said {
 
 // What the program says that makes a table: it is written, a line is bad, of a pair nothing is said, the text is too long, or a line
 // that it has in common with the other program.
-#[derive(Drop)]
+#[derive(Clone, Copy)]
 pub enum Told {
     Written,
     BadLine(u64),
@@ -33,7 +35,7 @@ pub enum Told {
 }
 
 // What the program says that merges two traces: the refusal, what was merged, or a line that it has in common with the others.
-#[derive(Drop)]
+#[derive(Clone, Copy)]
 pub enum Replied {
     Refused(Merged),
     Merged(Joined),

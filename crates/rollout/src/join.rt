@@ -2,6 +2,8 @@
 ghost use Rattle.std.specs.Prelude.{◌≤◌, length};
 ghost use Rattle.io.specs.Counts.{IsPrefixLen};
 
+use std::rt::Env;
+
 // A word behind the others, where there is room for it.
 fn append(line: &mut [u8], at: usize, word: &[u8]) -> usize
     requires { at ≤ length line.old }
@@ -20,24 +22,24 @@ fn append(line: &mut [u8], at: usize, word: &[u8]) -> usize
 }
 
 // An argument longer than any file's name is handed on as an empty one, which is bad in every place.
-fn append_argument(line: &mut [u8], at: usize, k: usize) -> usize
+fn append_argument<R: Env>(rt: &R, line: &mut [u8], at: usize, k: usize) -> usize
     requires { at ≤ length line.old }
     ensures { result ≤ length line.old }
 {
     let mut word = io::buffer();
-    let n = os::arg(k, &mut word);
+    let n = invocation::argument(rt, k, &mut word);
     append(line, at, &word[..n])
 }
 
 // Fifteen arguments find room in 65,536 bytes, and of fifteen one is bad: nothing that is left out behind them could change what is said.
-pub(crate) fn arguments(line: &mut [u8; 65536]) -> usize
+pub(crate) fn arguments<R: Env>(rt: &R, line: &mut [u8; 65536]) -> usize
     ensures { IsPrefixLen result line.new }
 {
-    let count = os::arg_count();
+    let count = invocation::count(rt);
     let mut at: usize = 0;
     let mut k: usize = 1;
     while k < count {
-        at = append_argument(line, at, k);
+        at = append_argument(rt, line, at, k);
         k += 1;
     }
     at

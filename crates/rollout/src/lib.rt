@@ -1,6 +1,8 @@
 // The program `canary --choice strict|lenient --trace FILE --table FILE --levels PICL,USER,TRACE|off --statistics on|off --share N
 // [--out FILE]`, for those who run a rollout. What it says is a function of its arguments, of what its files hold and of whether OUT could
 // be written (specs/Program.antt); the functions here ask the system for its arguments and print what is said.
+#![tactic(auto)]
+
 mod join;
 
 ghost use Rattle.files.specs.Told.{ByFiles};
@@ -11,27 +13,30 @@ ghost use Rattle.flags.specs.Plan.{plan_of};
 ghost use Rattle.flags.specs.Spans.{AllWithin};
 ghost use Rattle.rollout.specs.Program.{ShownBy};
 
+use files::Disk;
 use flags::{Plan, Wishes};
-use libc::STDOUT_FILENO;
 use named::Span;
 use report::Said;
+use std::rt::Env;
+
+const STDOUT: i32 = 1;
 
 // The whole program. No argument has a zero byte in it.
-pub fn run() {
+pub fn run<R: Disk + Env>(rt: &R) {
     let mut line = io::large_buffer();
-    let n = join::arguments(&mut line);
-    perform(&line[..n], 0);
+    let n = join::arguments(rt, &mut line);
+    perform(rt, &line[..n], 0);
 }
 
 // What the program does with a line of arguments, which stand apart by the separator.
-pub fn perform(line: &[u8], separator: u8) {
+pub fn perform<R: Disk>(rt: &R, line: &[u8], separator: u8) {
     let mut text = [0u8; 256];
-    let n = performed(line, separator, &mut text);
-    io::write_all(STDOUT_FILENO, &text[..n]);
+    let n = performed(rt, line, separator, &mut text);
+    io::write_all(STDOUT, &text[..n]);
 }
 
 // All but the printing. Where an argument is bad or missing, no file is looked at.
-fn performed(line: &[u8], separator: u8, text: &mut [u8; 256]) -> usize
+fn performed<R: Disk>(rt: &R, line: &[u8], separator: u8, text: &mut [u8; 256]) -> usize
     ensures { ShownBy (plan_of (words_of separator line.now)) text.old result text.new }
 {
     let plan = flags::planned(line, separator);
@@ -39,7 +44,7 @@ fn performed(line: &[u8], separator: u8, text: &mut [u8; 256]) -> usize
         Plan::Bad(_) => complaint::complaint(line, plan, text),
         Plan::Missing(_) => complaint::complaint(line, plan, text),
         Plan::Judge(wishes) => {
-            let said = judge_named(line, wishes);
+            let said = judge_named(rt, line, wishes);
             report::say(said, text)
         }
     }
@@ -54,7 +59,7 @@ fn cut(line: &[u8], span: Span) -> &[u8]
 }
 
 // The files whose names stand in the line.
-fn judge_named(line: &[u8], wishes: Wishes) -> Said
+fn judge_named<R: Disk>(rt: &R, line: &[u8], wishes: Wishes) -> Said
     requires { AllWithin line.now wishes }
     ensures { ByFiles (on_files wishes.asked wishes.wanted) result }
 {
@@ -63,6 +68,7 @@ fn judge_named(line: &[u8], wishes: Wishes) -> Said
     let table = wishes.table;
     let out = wishes.out;
     filed::judge_files(
+        rt,
         asked,
         wishes.wanted,
         cut(line, trace),

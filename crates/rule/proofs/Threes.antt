@@ -12,7 +12,6 @@ use borrow.Author.Tests.{eq-eqb, ne_eqb, leb-true}
 use Rattle.paper.specs.Tests.{up_to}
 use Rattle.paper.specs.Forms.{whole_of}
 use Rattle.paper.specs.declared.Field.{Field}
-use Rattle.paper.specs.declared.Field.TheVariants as Field
 use Rattle.signed.specs.Naturals.{natural_of}
 use Rattle.signed.specs.declared.Natural.{Natural}
 use Rattle.signed.specs.declared.Natural.TheVariants.{Of, Outside}

@@ -10,7 +10,6 @@ use Rattle.rule.specs.declared.Meaning.{Meaning}
 use Rattle.rule.specs.declared.Meaning.TheVariants.{Bad, Sets}
 use Rattle.rule.specs.declared.three.Named.{Named}
 use Rattle.rule.specs.declared.three.Last.{Last}
-use Rattle.rule.specs.declared.three.Last.TheVariants as Last
 
 -- ---- places
 

@@ -4,7 +4,6 @@ use Rattle.std.proofs.Math.Option.{Option, none, some}
 use Rattle.paper.specs.Tests.{up_to}
 use Rattle.paper.specs.Forms.{whole_of}
 use Rattle.paper.specs.declared.Field.{Field}
-use Rattle.paper.specs.declared.Field.TheVariants as Field
 use Rattle.rule.specs.Words.{uncommented, trimmed, word, next}
 use Rattle.rule.specs.declared.Who.{Who}
 use Rattle.rule.specs.declared.Who.TheVariants.{Every, One, Nobody}

@@ -1,4 +1,6 @@
 // One line of a text of latencies: what it says, or that it is bad. What a text of such lines means is the crate text's to say.
+#![tactic(auto)]
+
 mod three;
 mod whom;
 mod words;
@@ -8,7 +10,7 @@ ghost use Rattle.rule.specs.Words.{trimmed};
 ghost use Rattle.rule.specs.Rule.{on_words, meaning_of};
 
 // Whom a word names: every processor, or one of them.
-#[derive(Drop)]
+#[derive(Clone, Copy)]
 pub enum Who {
     Every,
     One(usize),
@@ -16,7 +18,7 @@ pub enum Who {
 }
 
 // The latency from a sender to a receiver, in microseconds.
-#[derive(Drop)]
+#[derive(Clone, Copy)]
 pub struct Rule {
     pub sender: Who,
     pub receiver: Who,
@@ -24,7 +26,7 @@ pub struct Rule {
 }
 
 // What a line says.
-#[derive(Drop)]
+#[derive(Clone, Copy)]
 pub enum Meaning {
     Nothing,
     Bad,

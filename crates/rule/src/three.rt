@@ -7,14 +7,14 @@ use crate::{Meaning, Rule, Who, whom, words};
 use signed::Natural;
 
 // Whom a word names, and where the next word begins.
-#[derive(Drop)]
+#[derive(Clone, Copy)]
 pub(crate) struct Named {
     pub who: Who,
     pub next: usize,
 }
 
 // The last word of a line.
-#[derive(Drop)]
+#[derive(Clone, Copy)]
 pub(crate) enum Last {
     Latency(u32),
     Bad,

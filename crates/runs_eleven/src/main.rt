@@ -1,4 +1,6 @@
 // The program with a choice that begins as a good one.
-fn main() {
-    shell::run();
+#![tactic(auto)]
+
+fn main(rt: HostRuntime) {
+    shell::run(&rt);
 }

@@ -1,4 +1,6 @@
 // The program with one argument too many.
-fn main() {
-    shell::run();
+#![tactic(auto)]
+
+fn main(rt: HostRuntime) {
+    shell::run(&rt);
 }

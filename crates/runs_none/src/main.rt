@@ -1,4 +1,6 @@
 // The program with no argument.
-fn main() {
-    shell::run();
+#![tactic(auto)]
+
+fn main(rt: HostRuntime) {
+    shell::run(&rt);
 }

@@ -1,4 +1,6 @@
 // The program with a name that leads to the trace and is longer than any name may be.
-fn main() {
-    shell::run();
+#![tactic(auto)]
+
+fn main(rt: HostRuntime) {
+    shell::run(&rt);
 }

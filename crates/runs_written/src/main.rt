@@ -1,8 +1,12 @@
 // The program, and then the file that it wrote.
-fn main() {
-    shell::run();
+#![tactic(auto)]
+
+const STDOUT: i32 = 1;
+
+fn main(rt: HostRuntime) {
+    shell::run(&rt);
     let mut text = io::large_buffer();
-    let read = files::load(b"out", &mut text);
+    let read = files::load(&rt, b"out", &mut text);
     let n = read.len;
-    io::write_all(libc::STDOUT_FILENO, &text[..n]);
+    io::write_all(STDOUT, &text[..n]);
 }

@@ -2,6 +2,8 @@
 // sends and the times, which it looks into afterwards. Calls that all go through this function have the rounds once in what is
 // compiled, over arrays of the function that the rounds stand in; called from two places, reach had them behind five pointers, and the
 // rounds took a third longer.
+#![tactic(auto)]
+
 ghost use Rattle.std.specs.Prelude.{◌≡◌, length};
 ghost use Rattle.clearance.specs.Clearance.{given_of};
 ghost use Rattle.store.specs.Layout.{capacity};

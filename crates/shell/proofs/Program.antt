@@ -12,7 +12,6 @@ use Rattle.answer.specs.Answers.{refusal}
 use Rattle.report.specs.declared.Said.{Said}
 use Rattle.report.specs.declared.Said.TheVariants.{Answered, CannotRead, TooMany}
 use Rattle.arguments.specs.declared.Plan.{Plan}
-use Rattle.arguments.specs.declared.Plan.TheVariants as Plan
 use Rattle.arguments.specs.Arguments.{plan_of, choice_alone}
 use Rattle.files.specs.Told.{ByFiles}
 use Rattle.filed.specs.Filed.{on_files}

@@ -1,5 +1,7 @@
 // What is shown of a trace, as text at the start of a room: its messages, or why the record on a line has its time; and whatever else
 // is said there, by the lines that all programs have in common.
+#![tactic(auto)]
+
 mod chained;
 mod found;
 mod speak;
@@ -11,7 +13,7 @@ ghost use Rattle.showing.specs.Shown.{on_trace};
 use paper::Asked;
 use report::Said;
 
-#[derive(Drop)]
+#[derive(Clone, Copy)]
 pub enum Shows {
     Messages,
     Reasons,

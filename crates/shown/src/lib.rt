@@ -1,5 +1,7 @@
 // One time written, in document 01's form of a time. What stands there and how long it is, the crate paper says (specs/Forms.antt,
 // `time_shown`); the public functions take anything.
+#![tactic(auto)]
+
 mod write;
 
 ghost use Rattle.std.specs.Prelude.{◌≡◌};
@@ -8,7 +10,7 @@ ghost use Rattle.shown.specs.Writes.{shown_length, TimePut};
 use forms::Size;
 
 // What a write comes to: the place behind what was written, or why nothing was.
-#[derive(Drop)]
+#[derive(Clone, Copy)]
 pub enum Put {
     At(usize),
     NoRoom,

@@ -1,4 +1,6 @@
 // What a stored record is to the matching: a send or a receive under a key, "from p to q with type t".
+#![tactic(auto)]
+
 ghost use Rattle.std.specs.Prelude.{◌≡◌};
 ghost use Rattle.paper.specs.Matching.{same_key};
 ghost use Rattle.side.specs.Sides.{key_of, side_for, side_at, Bucket, send_under, receive_under};
@@ -6,14 +8,14 @@ ghost use Rattle.side.specs.Sides.{key_of, side_for, side_at, Bucket, send_under
 use paper::Role;
 
 // From whom to whom, with which tag.
-#[derive(Drop)]
+#[derive(Clone, Copy)]
 pub struct Key {
     pub sender: usize,
     pub receiver: usize,
     pub tag: i64,
 }
 
-#[derive(Drop)]
+#[derive(Clone, Copy)]
 pub enum Side {
     Neither,
     Sends(Key),

@@ -1,4 +1,6 @@
 // Signed numbers tested and turned into plain ones, in functions so small that no other crate's proof meets a number's bits.
+#![tactic(auto)]
+
 ghost use Rattle.std.specs.Prelude.{◌-◌, ◌≡◌};
 ghost use Rattle.std.specs.Int.Signed.{lt_z};
 ghost use Rattle.paper.specs.Tests.{eq_z};
@@ -7,7 +9,7 @@ ghost use Rattle.signed.specs.Naturals.{size_of, natural_of};
 ghost use Rattle.signed.specs.Codes.{code_of, decoded};
 
 // A number that is not negative, or outside.
-#[derive(Drop)]
+#[derive(Clone, Copy)]
 pub enum Natural {
     Of(usize),
     Outside,

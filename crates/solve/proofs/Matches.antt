@@ -21,11 +21,9 @@ use Rattle.chains.specs.Places.{places_of}
 use Rattle.chains.proofs.Outcomes.{they_fit}
 use Rattle.message.specs.Outcome as message
 use Rattle.message.specs.declared.Matching.{Matching}
-use Rattle.message.specs.declared.Matching.TheVariants as Matching
 use Rattle.forms.proofs.Tests.{both}
 use Rattle.engine.specs.Promise.{all_are}
 use Rattle.clock.specs.declared.Settled.{Settled}
-use Rattle.clock.specs.declared.Settled.TheVariants as Settled
 use Rattle.engine.proofs.Lengths.{all_equal}
 use Rattle.solve.specs.Outcome.{fitting, Keepable, kept_places, solved_by, SolvedInto, settled_as, Tables, settled_by}
 use Rattle.solve.specs.declared.Solved.{Solved}

@@ -9,7 +9,6 @@ use Rattle.paper.specs.declared.Stop.TheVariants.{End, At}
 use Rattle.store.specs.Layout.{too_many, capacity, entries_in}
 use Rattle.engine.specs.Promise.{all_are, widest}
 use Rattle.clock.specs.declared.Settled.{Settled}
-use Rattle.clock.specs.declared.Settled.TheVariants as Settled
 use Rattle.chains.specs.Places.{places_of}
 use Rattle.waits.specs.Tables.{gaps_of}
 use Rattle.solve.specs.declared.Solved.{Solved}

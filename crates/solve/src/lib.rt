@@ -1,5 +1,7 @@
 // From the records in the store to their times: the messages matched, the tables laid out, the engine run. All of it goes on in slices
 // that are lent, with a place for each record that is to be looked at.
+#![tactic(auto)]
+
 ghost use Rattle.std.specs.Prelude.{◌≡◌, [], ◌∷◌, length};
 ghost use Rattle.store.specs.Layout.{capacity, entries_in};
 ghost use Rattle.solve.specs.Outcome.{fitting, Keepable, kept_places, settled_as, Tables, settled_by, SolvedInto};
@@ -8,7 +10,7 @@ use clock::Settled;
 use message::Matching;
 use paper::{Fault, Site};
 
-#[derive(Drop)]
+#[derive(Clone, Copy)]
 pub enum Solved {
     // matched messages, sends not received, rounds; the places of the sends and the times are in the lent slices
     Times(usize, usize, usize),

@@ -6,7 +6,7 @@ use native.Mathlib.Numerals.{add-one}
 use native.Mathlib.Nat.{add-suc}
 use native.Mathlib.Omega.{arith}
 use lib.ListN.{length, drop, drop_of_length-le}
-use lib.Seq.{take-length, drop-drop, drop-nil, drop-length}
+use lib.Seq.{drop-drop, drop-nil, drop-length}
 use lib.IntN.{ℤ}
 use Rattle.octets.specs.Octets.{index_of}
 use Rattle.paper.specs.Line.{after}

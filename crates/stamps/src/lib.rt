@@ -1,10 +1,12 @@
 // Where the timestamps of records stand in the trace, by where the store says that their lines start.
+#![tactic(auto)]
+
 ghost use Rattle.std.specs.Prelude.{◌≡◌, drop};
 ghost use Rattle.paper.specs.Line.{after};
 ghost use Rattle.stamps.specs.Stamps.{in_place, Place, StampOf};
 
 // A timestamp is s[at..at + long].
-#[derive(Drop)]
+#[derive(Clone, Copy)]
 pub struct Stamp {
     pub at: usize,
     pub long: usize,

@@ -17,11 +17,9 @@ use Rattle.reading.specs.Tidy.{InRange}
 use Rattle.reading.proofs.Starts.{line_starts, start_within}
 use Rattle.field.specs.Cursor.{rest_at, read_as, Tells}
 use Rattle.field.specs.declared.Form.{Form}
-use Rattle.field.specs.declared.Form.TheVariants as Form
 use Rattle.field.proofs.Cursors.{past, inside}
 use Rattle.fields.specs.Cursor.{begun_of, begun_next}
 use Rattle.fields.specs.declared.Opening.{Opening}
-use Rattle.fields.specs.declared.Opening.TheVariants as Opening
 use Rattle.store.specs.Layout.{entry_from, start_from}
 use Rattle.statistics.proofs.Tells.{or_false}
 use Rattle.statistics.specs.Ready.{Stands, pair_differs, pairs_differ, behind_found, differs_at}

@@ -1,5 +1,5 @@
 -- A time counted from one microsecond before the least that the format holds, and a record put to others.
-use Rattle.std.proofs.Common.{◌≡◌, ℕ, suc, ◌+◌, ◌-◌, ◌%◌, ◌^◌, ◌≤◌, T, ℤ, pos, negsuc, ◌+ℤ◌, nat_abs, refl, ap, ◌∙◌, arith, to_z-of_z, w64, Fits, SFits, to_z, of_z, le-ltb}
+use Rattle.std.proofs.Common.{◌≡◌, ℕ, suc, ◌+◌, ◌%◌, ◌^◌, ◌≤◌, T, ℤ, pos, negsuc, ◌+ℤ◌, nat_abs, refl, ap, ◌∙◌, arith, to_z-of_z, w64, Fits, SFits, to_z, of_z, le-ltb}
 use lib.Signed.{non_neg}
 use Rattle.reading.specs.Tidy.{InRange}
 use Rattle.signed.specs.Codes.{code_of}

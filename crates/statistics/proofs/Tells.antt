@@ -1,14 +1,11 @@
 -- One pair beside numbers, as the code asks.
 use Rattle.std.proofs.Common.{◌≡◌, ℕ, ◌+◌, ◌*◌, ◌^◌, ◌<◌, ◌≤◌, Bool, true, false, not, ◌||◌, eqb, leb, ◌⊎◌, ℤ, pos, negsuc, refl, inl, inr, arith, eq-eqb, ne_eqb, le-leb}
 use borrow.Author.Tests.{lt-leb}
-use denote.Enum.Declared.{tag_of}
 use Rattle.paper.specs.Tests.{eq_z, minus, one_of}
 use Rattle.paper.specs.Events.{is_statistics}
 use Rattle.paper.specs.Statistics.{is_listed, is_compared}
 use Rattle.paper.specs.declared.Record.{Record}
 use Rattle.paper.specs.declared.Standing.{Standing}
-use Rattle.paper.specs.declared.Standing.TheVariants as Standing
-use Rattle.paper.specs.contracts.Standing.{the_type}
 use Rattle.signed.specs.Naturals.{size_of}
 use Rattle.signed.specs.declared.Natural.TheVariants.{Of, Outside}
 use Rattle.reading.specs.Tidy.{InRange}
@@ -48,25 +45,17 @@ module _ {kind k : ℤ} (same : k ≡ kind) {told : Bool} where
     unfolding second_kind
     marks_second t = rw (← same, ← tells, t)
 
--- ---- whether an event is listed, by the places of the four standings
+-- ---- whether an event is listed, by the four standings
 
-pub is_listed_lem : (s : Standing) → (tag_of the_type s ≡ 0) ⊎ (tag_of the_type s ≡ 1) → true ≡ is_listed s
+pub is_listed_lem : (s : Standing) → (s ≡ Standing.Listed) ⊎ (s ≡ Standing.Message) → true ≡ is_listed s
 unfolding is_listed
-is_listed_lem Standing.Listed which = refl
-is_listed_lem Standing.Message which = refl
-is_listed_lem Standing.NotHandled (inl e) = absurd (omega arith)
-is_listed_lem Standing.NotHandled (inr e) = absurd (omega arith)
-is_listed_lem Standing.Unlisted (inl e) = absurd (omega arith)
-is_listed_lem Standing.Unlisted (inr e) = absurd (omega arith)
+is_listed_lem s (inl e) = rw e
+is_listed_lem s (inr e) = rw e
 
-pub not_listed : (s : Standing) → (tag_of the_type s ≡ 2) ⊎ (tag_of the_type s ≡ 3) → false ≡ is_listed s
+pub not_listed : (s : Standing) → (s ≡ Standing.NotHandled) ⊎ (s ≡ Standing.Unlisted) → false ≡ is_listed s
 unfolding is_listed
-not_listed Standing.Listed (inl e) = absurd (omega arith)
-not_listed Standing.Listed (inr e) = absurd (omega arith)
-not_listed Standing.Message (inl e) = absurd (omega arith)
-not_listed Standing.Message (inr e) = absurd (omega arith)
-not_listed Standing.NotHandled which = refl
-not_listed Standing.Unlisted which = refl
+not_listed s (inl e) = rw e
+not_listed s (inr e) = rw e
 
 -- ---- a number
 

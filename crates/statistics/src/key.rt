@@ -3,7 +3,7 @@ ghost use Rattle.std.specs.Prelude.{◌≡◌};
 ghost use Rattle.statistics.specs.Keys.{key_at, under, Bucket};
 ghost use Rattle.store.specs.Layout.{entry_from};
 
-#[derive(Drop)]
+#[derive(Clone, Copy)]
 pub(crate) struct Key {
     pub kind: i64,
     pub event: i64,

@@ -1,6 +1,8 @@
 // 19: whether the statistics records with event field -1 tell what the records before them on their processor come to. The records of the
 // store are gone over in their order, with what they come to so far beside them; a statistics line is read again where the store says that it
 // starts.
+#![tactic(auto)]
+
 mod key;
 mod line;
 mod pair;

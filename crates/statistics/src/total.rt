@@ -15,7 +15,7 @@ use paper::Role;
 
 // How many records there are, and modulo 2^64 the sum of their times, each counted from one microsecond before the least that the format
 // holds, and that of their messages' lengths.
-#[derive(Drop)]
+#[derive(Clone, Copy)]
 pub(crate) struct Total {
     pub count: u32,
     pub times: u64,

@@ -1,5 +1,7 @@
 // The steps that a chain of records goes by, each kind a table of places: of a record the one that it waits for, where the time is exactly
 // that one's plus the wait. Numbers past the end of a slice are 0.
+#![tactic(auto)]
+
 ghost use Rattle.std.specs.Prelude.{◌≡◌, get_or, pos, ◌+ℤ◌, cond, eqb};
 ghost use Rattle.paper.specs.Tests.{eq_z};
 ghost use Rattle.paper.specs.Clock.{time_at};

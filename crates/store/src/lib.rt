@@ -1,5 +1,7 @@
 // The records' store: the listed records wait in one lent slice of numbers. Only this crate knows how many numbers a record takes and
 // which of them stands where; specs/Layout.antt says it.
+#![tactic(auto)]
+
 mod numbers;
 mod parts;
 

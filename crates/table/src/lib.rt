@@ -1,4 +1,6 @@
 // The latencies that the bytes of a table file hold, and back: document 01, "four for each latency, low byte first".
+#![tactic(auto)]
+
 mod write;
 
 ghost use Rattle.std.specs.Prelude.{◌≡◌, ◌+◌, ◌*◌, ◌<◌, length};

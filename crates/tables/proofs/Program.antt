@@ -9,7 +9,6 @@ use borrow.Author.Tests.{lt-ltb, le-ltb, not-true, not-false}
 use Rattle.text.specs.Text.{made_of}
 use Rattle.text.specs.declared.Made.{Made}
 use Rattle.report.specs.declared.Told.{Told}
-use Rattle.report.specs.declared.Told.TheVariants as Told
 use Rattle.files.specs.File.{file_of}
 use Rattle.files.specs.Told.{ByStored}
 use Rattle.tables.specs.Program.{on_made, on_text, on_file, told_of, ByFile}

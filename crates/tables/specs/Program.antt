@@ -6,7 +6,6 @@ use Rattle.text.specs.Text.{made_of}
 use Rattle.text.specs.declared.Made.{Made}
 use Rattle.text.specs.declared.Made.TheVariants.{Whole, BadLine, Open}
 use Rattle.report.specs.declared.Told.{Told}
-use Rattle.report.specs.declared.Told.TheVariants as Told
 use Rattle.files.specs.Told.{ByStored}
 
 -- only a whole table goes to its file

@@ -1,31 +1,35 @@
 // The program `latencies TEXT TABLE`, which makes a table of latencies from a text. What it says is a function of the number of its
 // arguments, of what the text's file holds and of whether TABLE could be written (specs/Program.antt); the functions here ask the
 // system for these and print what is said. TABLE is touched only where the table is whole.
+#![tactic(auto)]
+
 mod made;
 mod print;
 
 ghost use Rattle.std.specs.Prelude.{length, ◌≡◌};
 ghost use Rattle.tables.specs.Program.{on_file, told_of, ByFile};
 
+use files::Disk;
 use report::Told;
+use std::rt::Env;
 
 // The whole program. An argument that is missing or longer than any name is handed on as an empty one, which is no file's name.
-pub fn run() {
+pub fn run<R: Disk + Env>(rt: &R) {
     let mut text = io::buffer();
     let mut table = io::buffer();
-    let t = os::arg(1, &mut text);
-    let l = os::arg(2, &mut table);
-    perform(os::arg_count(), &text[..t], &table[..l]);
+    let t = invocation::argument(rt, 1, &mut text);
+    let l = invocation::argument(rt, 2, &mut table);
+    perform(rt, invocation::count(rt), &text[..t], &table[..l]);
 }
 
 // What the program does with its arguments. Their count has the program's own name in it.
-pub fn perform(count: usize, text: &[u8], table: &[u8]) {
-    let told = performed(count, text, table);
+pub fn perform<R: Disk>(rt: &R, count: usize, text: &[u8], table: &[u8]) {
+    let told = performed(rt, count, text, table);
     print::tell(told);
 }
 
 // All but the printing.
-fn performed(count: usize, text: &[u8], table: &[u8]) -> Told
+fn performed<R: Disk>(rt: &R, count: usize, text: &[u8], table: &[u8]) -> Told
     ensures { ByFile (told_of count) result }
 {
     if 3 < count {
@@ -34,7 +38,7 @@ fn performed(count: usize, text: &[u8], table: &[u8]) -> Told
     if count < 2 {
         return Told::CannotRead;
     }
-    read_text(text, table)
+    read_text(rt, text, table)
 }
 
 // Of a text that is too long one byte too many is read, which tells.
@@ -44,11 +48,11 @@ fn text_buffer() -> [u8; 262145]
     [0; 262145]
 }
 
-fn read_text(text: &[u8], table: &[u8]) -> Told
+fn read_text<R: Disk>(rt: &R, text: &[u8], table: &[u8]) -> Told
     ensures { ByFile on_file result }
 {
     let mut bytes = text_buffer();
-    let loaded = files::load(text, &mut bytes);
+    let loaded = files::load(rt, text, &mut bytes);
     let n = loaded.len;
-    made::of_text(loaded.ok, &bytes[..n], table)
+    made::of_text(rt, loaded.ok, &bytes[..n], table)
 }

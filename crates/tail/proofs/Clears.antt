@@ -9,7 +9,7 @@ use lib.ListN.{length, get_or}
 use lib.Seq.{drop-cons}
 use lib.Dec.{eqb}
 use borrow.Author.Tests.{ne_eqb, eqb-false}
-use Rattle.octets.specs.Octets.{index_of, index_after}
+use Rattle.octets.specs.Octets.{index_of}
 use Rattle.tail.specs.Ends.{Clear}
 
 pub clear_none : (s : List ℕ) (at : ℕ) → at ≤ length s → Clear s at at

@@ -1,10 +1,12 @@
 // The end of a line that is not read any further, from a cursor behind its six fields on: where the next line starts, or doubt, which is
 // crate line's to settle. Apart from crate quick because it reads no numbers and needs nothing of what does.
+#![tactic(auto)]
+
 ghost use Rattle.std.specs.Prelude.{◌≡◌, ℕ, ◌+◌, ◌≤◌, List, true, false, length};
 ghost use Rattle.tail.specs.Ends.{Clear, EndsAt};
 
 // Where the line after one that is not read to its end starts.
-#[derive(Drop)]
+#[derive(Clone, Copy)]
 pub enum Ends {
     At(usize),
     Doubt,

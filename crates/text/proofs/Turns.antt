@@ -1,13 +1,13 @@
 -- A line's sayings put over those before it, and the loop over the lines: what is left gives with what was said the whole.
 use Prim.Native.Nat.{ℕ, ◌+◌, ◌-◌, ◌/◌, ◌%◌, ◌≤◌, ◌<◌}
 use mathlib.Core.Path.{◌≡◌, refl, sym, ◌∙◌}
-use mathlib.Core.Bool.{Bool, true, false, cond, ◌&&◌, not}
+use mathlib.Core.Bool.{Bool, true, false, cond, ◌&&◌}
 use mathlib.Core.List.{List, []}
 use mathlib.Core.Option.{Option, some}
 use native.Mathlib.Omega.{arith}
 use lib.ListN.{length, take, drop, get_or, drop_of_length-le}
 use lib.Dec.{eqb}
-use borrow.Author.Tests.{eqb-true, eqb-false, ne_eqb, le-leb, not-true, not-false}
+use borrow.Author.Tests.{eqb-true, eqb-false, ne_eqb, le-leb}
 use Rattle.octets.specs.Octets.{index_of}
 use Rattle.paper.specs.Reading.{Lines, done, unended, ended, lines_of}
 use Rattle.reading.proofs.Found.{found_at, unended_here, ended_here}
@@ -106,10 +106,10 @@ module _ {text before now : List ℕ} {at n : ℕ} (going : Going text before no
 
   module _ {end : ℕ} (some_left : at < length text) (found : end ≡ at + index_of 10 (drop at text)) (within : end ≤ length text)
       {good : Bool} {after : List ℕ} (one : Said (meaning_of (take (end - at) (drop at text))) now good after) where
-    pub line_bad : not good ≡ true → LinesRead text before n after
+    pub line_bad : good ≡ false → LinesRead text before n after
     unfolding line_in
     line_bad e =
-        let is : is_good (meaning_of (take (end - at) (drop at text))) ≡ false = sym one.tells ∙ not-true good e in
+        let is : is_good (meaning_of (take (end - at) (drop at text))) ≡ false = sym one.tells ∙ e in
         let there : some n ≡ first_bad 1 (lines_of text) = sym (bad_here n _ _ is) ∙ sym (bad_on text at end some_left found within n) ∙ going.bad in
         let counts : n ≡ 0 → ⊥ = λ z. omega (arith, going.first) in
         record {
@@ -118,9 +118,9 @@ module _ {text before now : List ℕ} {at n : ℕ} (going : Going text before no
           holds = λ z. absurd (counts z);
         }
 
-    pub line_good : not good ≡ false → Going text before after (end + 1) (n + 1)
+    pub line_good : good ≡ true → Going text before after (end + 1) (n + 1)
     line_good e =
-        let is : is_good (meaning_of (take (end - at) (drop at text))) ≡ true = sym one.tells ∙ not-false good e in
+        let is : is_good (meaning_of (take (end - at) (drop at text))) ≡ true = sym one.tells ∙ e in
         record {
           long = one.long ∙ going.long;
           inside = omega arith;

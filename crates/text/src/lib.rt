@@ -1,4 +1,6 @@
 // A text of latencies made into the bytes of a table file.
+#![tactic(auto)]
+
 mod lines;
 mod places;
 mod spans;
@@ -8,7 +10,7 @@ ghost use Rattle.text.specs.Text.{MadeInto};
 ghost use Rattle.text.specs.Held.{Unsaid, TableRead, written_over};
 
 // A whole table, the first bad line, or the first pair, sender and receiver, of which no line says anything.
-#[derive(Drop)]
+#[derive(Clone, Copy)]
 pub enum Made {
     Whole,
     BadLine(usize),

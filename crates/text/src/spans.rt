@@ -5,7 +5,7 @@ ghost use Rattle.text.specs.Held.{Spans, Filled, RowsFilled, RuleSet};
 use rule::{Rule, Who};
 
 // The processors from `from` up to, not including, `to`.
-#[derive(Drop)]
+#[derive(Clone, Copy)]
 pub(crate) struct Span {
     pub from: usize,
     pub to: usize,

@@ -1,4 +1,6 @@
 // Two texts compared.
+#![tactic(auto)]
+
 ghost use Rattle.std.specs.Prelude.{◌≡◌};
 ghost use Rattle.paper.specs.Text.{is_same};
 

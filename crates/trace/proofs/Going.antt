@@ -16,7 +16,6 @@ use Rattle.paper.specs.Columns.{column_in, in_line, whole_line}
 use Rattle.paper.specs.Reading.{lines_of, start, checked, with_listed, with_passed, on_line, read_from, read_of}
 use Rattle.paper.specs.declared.Choice.{Choice}
 use Rattle.paper.specs.declared.Fault.{Fault}
-use Rattle.paper.specs.declared.Fault.TheVariants as Fault
 use Rattle.paper.specs.declared.Record.{Record}
 use Rattle.paper.specs.declared.Entry.{Entry}
 use Rattle.paper.specs.declared.Spot.{Spot}

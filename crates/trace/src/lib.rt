@@ -1,14 +1,16 @@
 // A trace read line by line into the records' store. What a line comes to is the crate line's to say; here stand the order of the
 // lines, the last listed time of each processor (11), the number of listed records (12), and where the reading ends. The quick loop goes as far
 // as it can, and the one here goes on from there, step by step: to the end of a good trace, or to the line that is refused.
-mod quick;
+#![tactic(auto)]
+
+mod ahead;
 
 ghost use Rattle.trace.specs.Read.{ReadInto};
 
 use paper::{Choice, Fault, Line, Site, Stop};
 
 // Where the reading ended, and how many lines were listed and passed over up to there.
-#[derive(Drop)]
+#[derive(Clone, Copy)]
 pub struct Read {
     pub stop: Stop,
     pub listed: usize,
@@ -21,7 +23,7 @@ pub fn read_trace(choice: Choice, s: &[u8], store: &mut [u32]) -> Read
 {
     let most = store::capacity(store);
     let mut last: [i64; 64] = [-999_999_999_999_999; 64];
-    let begun = quick::lines(choice, s, most, store, &mut last);
+    let begun = ahead::lines(choice, s, most, store, &mut last);
     let mut listed = begun.listed;
     let mut passed = begun.passed;
     let mut at = begun.at;

@@ -1,5 +1,7 @@
 // The data of a listed record, from the cursor to the end of its line: what they are, or the field that is bad, missing or too many. Field 5
 // is the number of data, 6 the descriptor and 7 the first datum.
+#![tactic(auto)]
+
 mod pairs;
 
 ghost use Rattle.std.specs.Prelude.{◌≡◌, ◌≤◌};

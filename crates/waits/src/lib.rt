@@ -1,5 +1,7 @@
 // The tables that the engine of the clock condition takes, from the records' store and the latency table. As many records are
 // looked at as the lent slice has places; specs/Tables.antt says what it holds afterwards.
+#![tactic(auto)]
+
 ghost use Rattle.std.specs.Prelude.{◌*◌, ◌/◌, ◌≤◌, ◌<◌, ◌≡◌, length, get_or, replicate};
 ghost use Rattle.paper.specs.Gaps.{gap_of};
 ghost use Rattle.paper.specs.Matching.{gap_from};

@@ -1,5 +1,7 @@
 // "from that record back, step by step, to a record still at its original": the walk along the steps, each to a record that has one step
 // less, into a lent list.
+#![tactic(auto)]
+
 ghost use Rattle.std.specs.Prelude.{◌+◌, ◌<◌, ◌≡◌, ◌++◌, length, take, drop};
 ghost use Rattle.paper.specs.Filling.{filling, on_list};
 ghost use Rattle.walk.specs.Way.{rank_at, next, way, count_at, way_at};

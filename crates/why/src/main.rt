@@ -1,4 +1,6 @@
 // The program: all of it is in the crate inquiry.
-fn main() {
-    inquiry::show_reasons();
+#![tactic(auto)]
+
+fn main(rt: HostRuntime) {
+    inquiry::show_reasons(&rt);
 }

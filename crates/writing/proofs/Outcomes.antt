@@ -16,7 +16,6 @@ use Rattle.writing.specs.Inner.{Changed, changed, unfit, Held}
 use Rattle.writing.specs.declared.Written.{Written}
 use Rattle.writing.specs.declared.Written.TheVariants.{Length, NoRoom, Unfit}
 use Rattle.writing.specs.declared.measure.Change.{Change}
-use Rattle.writing.specs.declared.measure.Change.TheVariants as Change
 
 -- ---- the answer, from what the code knows where it gives it
 

@@ -1,6 +1,8 @@
 // The corrected trace written into a lent room: the trace's bytes with the timestamps of the moved records replaced. A timestamp that
 // did not move is the same bytes, so that only the moved ones are looked up, where the store says that their lines start, and all
 // between them is copied. A first pass measures, so that a room that is too short stays untouched, and a second one writes.
+#![tactic(auto)]
+
 mod fill;
 mod measure;
 mod moves;
@@ -10,7 +12,7 @@ ghost use Rattle.writing.specs.Outcome.{WrittenInto};
 
 // What a writing comes to: the length of the written trace, or why the room was left as it was. Unfit: the store or the times are
 // not those of this trace, as a timestamp is not where the store says, or a time is beyond 999,999,999,999,999 on either side of zero.
-#[derive(Drop)]
+#[derive(Clone, Copy)]
 pub enum Written {
     Length(usize),
     NoRoom,

@@ -10,7 +10,7 @@ use crate::{Written, moves};
 const LEAST: usize = 8;
 
 // What the new timestamps take beyond the least, and what the old ones took; or some timestamp is not in its place.
-#[derive(Drop)]
+#[derive(Clone, Copy)]
 pub(crate) enum Change {
     Of(usize, usize),
     Unfit,

@@ -1,0 +1,10 @@
+use Rattle.merging.specs.Weave.{chosen}
+use Rattle.merging.proofs.weave.step.Goals as goal
+
+pub returns-then-first_goes : goal.returns-then-first_goes
+unfolding chosen
+returns-then-first_goes c = rw (← c.first_goes.ensures, c.if-first_goes.true)
+
+pub returns : goal.returns
+unfolding chosen
+returns c = rw (← c.first_goes.ensures, c.if-first_goes.false)

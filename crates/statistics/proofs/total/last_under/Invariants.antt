@@ -1,0 +1,9 @@
+-- The invariant: no record under the key was passed, and p is on the chain.
+use Rattle.statistics.proofs.Tallied.{Backwards}
+use Rattle.statistics.proofs.total.last_under.Given as goal
+
+abbrev pub invariant-loop-p : goal.invariant-loop-p
+invariant-loop-p l = Backwards l.store l.key l.from l.p
+
+abbrev pub decreases-loop-p : goal.decreases-loop-p
+decreases-loop-p l = l.p

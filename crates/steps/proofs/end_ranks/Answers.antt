@@ -1,0 +1,7 @@
+use Rattle.waits.proofs.Filling.{fill_whole}
+use Rattle.steps.specs.Tables.{end_ranks}
+use Rattle.steps.proofs.end_ranks.Goals as goal
+
+pub returns : goal.returns
+unfolding end_ranks
+returns c = fill_whole _ _ c.loop-i.invariant c.loop-i-test.false

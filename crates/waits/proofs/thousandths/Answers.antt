@@ -1,0 +1,7 @@
+-- No sum of it is too large.
+use native.Mathlib.Omega.{arith}
+use Rattle.waits.proofs.Gaps.{thousands}
+use Rattle.waits.proofs.thousandths.Goals as goal
+
+pub returns : goal.returns
+returns c = omega (arith, thousands c.args.share c.args.n)
