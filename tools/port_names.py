@@ -1,5 +1,5 @@
 #!/usr/bin/env python3
-"""Brings the names of this repository's own definitions and lemmas to today's spelling, beside /opt/rattle/port/port.py.
+"""Brings the names of this repository's own definitions and lemmas to today's spelling, beside the kit's port/port.py.
 
     python3 tools/port_names.py before     before port.py: what stands in its way
     python3 tools/port_names.py after      after port.py: words in snake case
