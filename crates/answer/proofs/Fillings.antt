@@ -1,24 +1,12 @@
 -- 16, or the items in the list.
 use Prim.Native.Nat.{ℕ, ◌<◌, ◌≤◌}
-use mathlib.Core.Path.{◌≡◌, ap, ◌∙◌}
+use mathlib.Core.Path.{◌≡◌}
 use mathlib.Core.List.{List, ◌++◌}
 use lib.ListN.{length, drop}
 use borrow.Author.Tests.{lt-ltb, le-ltb}
-use Rattle.paper.specs.Columns.{nowhere}
 use Rattle.paper.specs.Filling.{untouched, filled_with, on_list}
-use Rattle.paper.specs.declared.Fault.TheVariants.{NoRoom}
 use Rattle.paper.specs.declared.Filled.{Filled}
-use Rattle.paper.specs.declared.Site.{Site}
 use Rattle.answer.specs.Answers.{unfilling, filling_in}
-
-module _ (count places : ℕ) where
-  pub too_short : places < count → {site : Site} → site ≡ nowhere → {r : Filled} → r ≡ unfilling NoRoom site → r ≡ filling_in count places
-  unfolding filling_in
-  too_short h at e = rw (lt-ltb places count h) (e ∙ ap (unfilling NoRoom) at)
-
-  pub long_enough : count ≤ places → record { number = 0; line = 0; column = 0; filled = count } ≡ filling_in count places
-  unfolding filling_in
-  long_enough h = rw (le-ltb places count h)
 
 -- ---- the list, by how many items it is to be filled with
 

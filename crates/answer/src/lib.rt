@@ -21,6 +21,7 @@ pub struct Counts {
     pub rounds: usize,
 }
 
+#[tactic(auto, unfolding(paper::specs::Numbers::number_of))]
 pub fn number(fault: Fault) -> u64
     ensures { result ≡ number_of fault }
 {
@@ -49,6 +50,7 @@ pub fn number(fault: Fault) -> u64
 }
 
 // "Every refusal returns its number and line, verdict 0 and all counts 0"
+#[tactic(auto, unfolding(crate::specs::Answers::refusal))]
 pub fn refused(fault: Fault, site: Site) -> Answer
     ensures { result ≡ refusal fault site }
 {
@@ -80,6 +82,7 @@ pub fn refused_nowhere(fault: Fault) -> Answer
 }
 
 // "Verdict 3 exactly if no message matched; 2 exactly if some time moved; else 1." A time moved exactly if there was a round.
+#[tactic(auto, unfolding(crate::specs::Answers::verdict_by, paper::specs::Answer::verdict_of))]
 fn verdict(matched: usize, rounds: usize) -> u64
     ensures { result ≡ verdict_by matched rounds }
 {
@@ -92,6 +95,7 @@ fn verdict(matched: usize, rounds: usize) -> u64
     1
 }
 
+#[tactic(auto, unfolding(crate::specs::Answers::acceptance))]
 pub fn accepted(counts: Counts, written: usize) -> Answer
     ensures { result ≡ acceptance counts written }
 {

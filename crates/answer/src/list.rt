@@ -5,6 +5,7 @@ ghost use Rattle.answer.specs.Answers.{unfilling, filling_in};
 use crate::{nowhere, number};
 use paper::{Fault, Filled, Site};
 
+#[tactic(auto, unfolding(crate::specs::Answers::unfilling))]
 pub fn unfilled(fault: Fault, site: Site) -> Filled
     ensures { result ≡ unfilling fault site }
 {
@@ -17,6 +18,7 @@ pub fn unfilled(fault: Fault, site: Site) -> Filled
 }
 
 // "then a list too short is 16": of a list with so many places that is to be filled with `count` items.
+#[tactic(auto, unfolding(crate::specs::Answers::filling_in))]
 pub fn filled_list(count: usize, places: usize) -> Filled
     ensures { result ≡ filling_in count places }
 {

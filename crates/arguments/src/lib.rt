@@ -7,62 +7,59 @@ ghost use Rattle.arguments.specs.Arguments.{choice_named, plan_of, choice_and_sh
 
 use paper::Asked;
 
-// What is to be done, before any file is looked at: the choice, and whether the written trace is wanted.
+// Why nothing is judged.
 #[derive(Clone, Copy)]
-pub enum Plan {
+pub enum Misuse {
     BadChoice,
     TooMany,
     Unnamed,
-    Judge(u32, bool),
 }
 
-// The first argument compared as bytes: 0 where it is neither "1" nor "2".
-fn choice_of(word: &[u8]) -> u32
+// The first argument compared as bytes: "1" or "2", and no other is a choice.
+#[tactic(auto, using(crate::proofs::Planning::naming))]
+fn choice_of(word: &[u8]) -> Option<u32>
     ensures { result ≡ choice_named word.now }
 {
-    if word.len() != 1 {
-        return 0;
-    }
-    match word[0] {
-        b'1' => 1,
-        b'2' => 2,
-        _ => 0,
+    match word {
+        b"1" => Some(1),
+        b"2" => Some(2),
+        _ => None,
     }
 }
 
 // The count has the program's own name in it.
-pub fn planned(count: usize, first: &[u8]) -> Plan
+#[tactic(auto, unfolding(crate::specs::Arguments::plan_of, crate::specs::Arguments::on_choice))]
+pub fn planned(count: usize, first: &[u8]) -> Result<(u32, bool), Misuse>
     ensures { result ≡ plan_of count first.now }
 {
-    let choice = choice_of(first);
-    if choice == 0 {
-        return Plan::BadChoice;
-    }
+    let choice = choice_of(first).ok_or(Misuse::BadChoice)?;
     if 5 < count {
-        return Plan::TooMany;
+        return Err(Misuse::TooMany);
     }
     if count < 4 {
-        return Plan::Unnamed;
+        return Err(Misuse::Unnamed);
     }
-    Plan::Judge(choice, 4 < count)
+    Ok((choice, 4 < count))
 }
 
 // What is named by a program without named arguments: a choice and a share, and nothing else is asked for.
+#[tactic(auto, unfolding(crate::specs::Arguments::choice_and_share))]
 pub fn choice_and_share(choice: u32, share: u32) -> Asked
     ensures { result ≡ choice_and_share choice share }
 {
     Asked {
-        choice: choice,
+        choice,
         levels: 0,
         picl: 0,
         user: 0,
         trace: 0,
         statistics: 0,
-        share: share,
+        share,
     }
 }
 
 // By those of them that name no share either.
+#[tactic(auto, unfolding(crate::specs::Arguments::choice_alone))]
 pub fn choice_alone(choice: u32) -> Asked
     ensures { result ≡ choice_alone choice }
 {

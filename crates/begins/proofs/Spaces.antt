@@ -1,4 +1,5 @@
 -- From one space to the next: whether there is a field, and its column.
+use Rattle.std.specs.Prelude.{Some, None}
 use Prim.Native.Nat.{ℕ, zero, suc, ◌+◌, ◌-◌, ◌≤◌, ◌<◌}
 use mathlib.Core.Path.{◌≡◌, refl, ◌∙◌}
 use mathlib.Core.List.{List}
@@ -13,7 +14,6 @@ use Rattle.octets.specs.Octets.{index_of}
 use Rattle.paper.specs.Line.{after, goes_on, fields_above}
 use Rattle.paper.specs.Columns.{column_of}
 use Rattle.begins.specs.Begins.{NotThere, Begins}
-use Rattle.begins.specs.declared.Begin.TheVariants.{At, Missing}
 
 -- a field from a cursor on, which is field k of the line
 pub record Left (l : List ℕ) (k left at : ℕ) : Type 0 where
@@ -21,10 +21,10 @@ pub record Left (l : List ℕ) (k left at : ℕ) : Type 0 where
   pub count : fields_above k l ≡ fields_above left (drop at l)
   pub column : column_of k l ≡ at + column_of left (drop at l)
 
-pub at_start : (l : List ℕ) (k : ℕ) → Left l k k 0
-at_start l k = record { inside = omega arith; count = refl; column = rw zero-add }
+pub at_start : (l : List ℕ) (k : ℕ) {left : ℕ} → left ≡ k → Left l k left 0
+at_start l k e = rw e (record { inside = omega arith; count = refl; column = rw zero-add })
 
-pub reached : (l : List ℕ) (k left at : ℕ) → Left l k left at → left ≤ 0 → Begins l k (At at)
+pub reached : (l : List ℕ) (k left at : ℕ) → Left l k left at → left ≤ 0 → Begins l k (Some at)
 unfolding Begins fields_above column_of
 reached l k zero at h n = record { is = h.count; column = h.column; inside = h.inside }
 reached l k (suc left) at h n = absurd (omega arith)
@@ -40,7 +40,7 @@ module _ (l : List ℕ) (k left at : ℕ) (h : Left l k left at) (some_left : 0 
     unfolding goes_on
     ends = le-ltb (index_of 32 (drop at l)) (length (drop at l)) (simp length-drop (omega (arith, place)))
 
-    pub stops : Begins l k Missing
+    pub stops : Begins l k None
     unfolding Begins fields_above column_of
     stops = go left some_left h.count h.column
       where
@@ -58,12 +58,15 @@ module _ (l : List ℕ) (k left at : ℕ) (h : Left l k left at) (some_left : 0 
     unfolding after
     behind = rw (place, add-one, ← add-suc) (drop-drop (suc (index_of 32 (drop at l))) at l)
 
-    pub goes : Left l k (left - 1) (end + 1)
+    one_on : Left l k (left - 1) (end + 1)
     unfolding fields_above column_of
-    goes = go left some_left h.count h.column
+    one_on = go left some_left h.count h.column
       where
         go : (i : ℕ) → 0 < i → fields_above k l ≡ fields_above i (drop at l) → column_of k l ≡ at + column_of i (drop at l) → Left l k (i - 1) (end + 1)
         go zero z c d = absurd (omega arith)
         go (suc i) z c d =
             let one_less : suc i - 1 ≡ i = omega arith in
             record { inside = omega arith; count = c ∙ rw (on, behind, one_less); column = d ∙ rw (on, behind, one_less) (omega (arith, place)) }
+
+    pub goes : {behind : ℕ} → behind ≡ left - 1 → Left l k behind (end + 1)
+    goes e = rw e one_on

@@ -5,35 +5,23 @@ ghost use Rattle.std.specs.Prelude.{◌≡◌};
 ghost use Rattle.paper.specs.Columns.{column_of};
 ghost use Rattle.begins.specs.Begins.{Begins};
 
-// The place where a field begins, which for an empty one may be the line's end; or there is no such field.
-#[derive(Clone, Copy)]
-pub enum Begin {
-    At(usize),
-    Missing,
-}
-
-pub fn begin_of(l: &[u8], k: usize) -> Begin
+pub fn begin_of(l: &[u8], k: usize) -> Option<usize>
     ensures { Begins l.now k result }
 {
-    let mut left = k;
     let mut at = 0;
-    while 0 < left {
-        let end = octets::find(l, at, 32);
+    for _ in 0..k {
+        let end = octets::find(l, at, b' ');
         if end == l.len() {
-            return Begin::Missing;
+            return None;
         }
         at = end + 1;
-        left -= 1;
     }
-    Begin::At(at)
+    Some(at)
 }
 
 // The column of a field, counted from 1. "Where a field or LF is missing, the column is one past the line's last byte".
 pub fn column(l: &[u8], k: usize) -> usize
     ensures { result ≡ column_of k l.now }
 {
-    match begin_of(l, k) {
-        Begin::At(at) => at + 1,
-        Begin::Missing => l.len() + 1,
-    }
+    begin_of(l, k).unwrap_or(l.len()) + 1
 }

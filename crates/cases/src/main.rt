@@ -37,9 +37,9 @@ fn main(rt: HostRuntime) {
     write_long(&rt);
     write_filling(&rt);
     let mut list = io::large_buffer();
-    let read = files::load(&rt, b"list", &mut list);
-    let n = read.len;
-    cases(&rt, &list[..n]);
+    if let Some(n) = files::load(&rt, b"list", &mut list) {
+        cases(&rt, &list[..n]);
+    }
 }
 
 // A file that its owner may neither read nor write.
@@ -89,10 +89,9 @@ fn long_text() -> [u8; 262145]
 
 // The first bytes of a text.
 fn write_first<R: Files>(rt: &R, name: &str, head: &[u8], text: &[u8], n: usize, end: &[u8]) {
-    if text.len() < n {
-        return;
+    if let Some(first) = text.get(..n) {
+        write(rt, name, head, first, end);
     }
-    write(rt, name, head, &text[0..n], end);
 }
 
 // A text into a file, whatever it held, between what comes before and what comes behind it.
@@ -117,21 +116,21 @@ fn case<R: Disk>(rt: &R, line: &[u8]) {
     print(b"== ");
     print(line);
     print(b"\n");
-    if line.len() == 0 {
+    let Some((kind, rest)) = line.split_first() else {
         run(rt, Program::Judge, line);
         return;
-    }
-    match line[0] {
-        b'>' => show(rt, &line[1..]),
-        b'?' => compare(rt, &line[1..]),
-        b'=' => make(rt, &line[1..]),
-        b'!' => rollout::perform(rt, &line[1..], b' '),
-        b':' => judge_line(rt, &line[1..]),
-        b'/' => judge_beginnings(rt, &line[1..]),
-        b'&' => run(rt, Program::Merge, &line[1..]),
-        b'@' => run(rt, Program::Messages, &line[1..]),
-        b'^' => run(rt, Program::Why, &line[1..]),
-        b'|' => merge_lines(rt, &line[1..]),
+    };
+    match *kind {
+        b'>' => show(rt, rest),
+        b'?' => compare(rt, rest),
+        b'=' => make(rt, rest),
+        b'!' => rollout::perform(rt, rest, b' '),
+        b':' => judge_line(rt, rest),
+        b'/' => judge_beginnings(rt, rest),
+        b'&' => run(rt, Program::Merge, rest),
+        b'@' => run(rt, Program::Messages, rest),
+        b'^' => run(rt, Program::Why, rest),
+        b'|' => merge_lines(rt, rest),
         _ => run(rt, Program::Judge, line),
     }
 }
@@ -176,7 +175,7 @@ fn perform<R: Disk>(
 
 // The words of a line as its arguments, with its own name in the count.
 fn run<R: Disk>(rt: &R, program: Program, line: &[u8]) {
-    if line.len() == 0 {
+    if line.is_empty() {
         perform(rt, program, 1, line, line, line, line, line);
         return;
     }
@@ -198,7 +197,7 @@ fn run<R: Disk>(rt: &R, program: Program, line: &[u8]) {
 
 // The same for the program that makes tables.
 fn make<R: Disk>(rt: &R, line: &[u8]) {
-    if line.len() == 0 {
+    if line.is_empty() {
         tables::perform(rt, 1, line, line);
         return;
     }
@@ -214,7 +213,7 @@ fn judge_line<R: Disk>(rt: &R, line: &[u8]) {
 
 fn judge_beginnings<R: Disk>(rt: &R, line: &[u8]) {
     for n in 0..line.len() {
-        judge_text(rt, b"1", &line[0..n + 1], b"");
+        judge_text(rt, b"1", &line[..n + 1], b"");
     }
 }
 
@@ -247,10 +246,7 @@ fn next(line: &[u8], at: usize, stop: u8) -> usize
     ensures { result ≤ length line.now }
 {
     let end = find(line, at, stop);
-    if end < line.len() {
-        return end + 1;
-    }
-    end
+    if end < line.len() { end + 1 } else { end }
 }
 
 // Words, which a space ends.
@@ -270,23 +266,15 @@ fn behind(line: &[u8], at: usize) -> usize
 fn spaces(line: &[u8]) -> usize
     ensures { result ≤ length line.now }
 {
-    let mut n = 0;
-    for i in 0..line.len() {
-        if line[i] == b' ' {
-            n += 1;
-        }
-    }
-    n
+    line.iter().filter(|byte| **byte == b' ').count()
 }
 
 fn show<R: Disk>(rt: &R, name: &[u8]) {
     let mut text = io::large_buffer();
-    let read = files::load(rt, name, &mut text);
-    if !read.ok {
+    let Some(n) = files::load(rt, name, &mut text) else {
         print(b"no file\n");
         return;
-    }
-    let n = read.len;
+    };
     print(&text[..n]);
 }
 
@@ -294,23 +282,19 @@ fn compare<R: Disk>(rt: &R, line: &[u8]) {
     let a = behind(line, 0);
     let mut one = io::large_buffer();
     let mut other = io::large_buffer();
-    let first = files::load(rt, word(line, 0), &mut one);
-    let second = files::load(rt, word(line, a), &mut other);
-    if !first.ok {
+    let Some(n) = files::load(rt, word(line, 0), &mut one) else {
         print(b"no file\n");
         return;
-    }
-    if !second.ok {
+    };
+    let Some(m) = files::load(rt, word(line, a), &mut other) else {
         print(b"no file\n");
         return;
-    }
-    let n = first.len;
-    let m = second.len;
-    if check::same(&one[..n], &other[..m]) {
+    };
+    if one[..n] == other[..m] {
         print(b"same\n");
-        return;
+    } else {
+        print(b"different\n");
     }
-    print(b"different\n");
 }
 
 fn print(text: &[u8]) {

@@ -1,10 +1,10 @@
 -- "Give one with the fewest steps, and among those ..": the best of some lists, where there is one that is short enough.
+use Rattle.std.specs.Prelude.{Option, Some, None, option_map}
 use Prim.Native.Nat.{ℕ, suc, ◌≤◌, ◌<◌}
 use native.Mathlib.Omega.{arith}
 use mathlib.Core.Path.{◌≡◌, refl, ap}
 use mathlib.Core.Logic.{◌⊎◌, inl, inr, ⊎_elim}
 use mathlib.Core.Bool.{Bool, true, false, cond}
-use mathlib.Core.Option.{Option, none, some, map}
 use mathlib.Core.List.{List, ◌∷◌}
 use lib.ListN.{length}
 use lib.Dec.{ltb}
@@ -20,8 +20,8 @@ pub record Foremost (P : List ℕ → Type 0) (Before : List ℕ → List ℕ �
 
 -- such a one, or all of them are too long
 pub data Best (P : List ℕ → Type 0) (Before : List ℕ → List ℕ → Type 0) (most : ℕ) : Option (List ℕ) → Type 0 where
-  all_long : ((d : List ℕ) → P d → most < length d) → Best P Before most none
-  foremost : {c : List ℕ} → Foremost P Before most c → Best P Before most (some c)
+  all_long : ((d : List ℕ) → P d → most < length d) → Best P Before most None
+  foremost : {c : List ℕ} → Foremost P Before most c → Best P Before most (Some c)
 
 -- the same lists told otherwise
 pub best_same : {P Q : List ℕ → Type 0} {Before : List ℕ → List ℕ → Type 0} {most : ℕ} {o : Option (List ℕ)}
@@ -45,7 +45,7 @@ best_before to (foremost {c = c} b) =
 
 -- one record more before each
 pub best_more : {P : List ℕ → Type 0} {Before : List ℕ → List ℕ → Type 0} {most : ℕ} (i : ℕ) {o : Option (List ℕ)}
-    → Best P (λ c d. Before (i ∷ c) (i ∷ d)) most o → Best (λ d. (c : List ℕ) × (d ≡ i ∷ c) × P c) Before (suc most) (map (λ c. i ∷ c) o)
+    → Best P (λ c d. Before (i ∷ c) (i ∷ d)) most o → Best (λ d. (c : List ℕ) × (d ≡ i ∷ c) × P c) Before (suc most) (option_map (λ c. i ∷ c) o)
 best_more i (all_long b) = all_long (λ d (c, e, p). rw e (omega (arith, b c p)))
 best_more i (foremost {c = c} b) =
     foremost
@@ -84,6 +84,6 @@ module _ {P Q : List ℕ → Type 0} {Before : List ℕ → List ℕ → Type 0}
   best_fewer (foremost {c = c} f) (all_long g) = foremost (first_kind c f (λ e q. omega (arith, g e q, f.short)))
   best_fewer (foremost {c = c} f) (foremost {c = d} g) = go (ltb (length d) (length c)) refl
     where
-      go : (t : Bool) → ltb (length d) (length c) ≡ t → Best (λ d. P d ⊎ Q d) Before most (some (cond t d c))
+      go : (t : Bool) → ltb (length d) (length c) ≡ t → Best (λ d. P d ⊎ Q d) Before most (Some (cond t d c))
       go true e = foremost (second_kind d g (λ b p. omega (arith, f.fewest b p, ltb-true (length d) (length c) e)))
       go false e = foremost (first_kind c f (λ b q. omega (arith, g.fewest b q, ltb-false (length d) (length c) e)))

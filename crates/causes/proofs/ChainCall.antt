@@ -15,7 +15,6 @@ use Rattle.paper.specs.Filling.{Query, untouched, on_list}
 use Rattle.paper.specs.Chain.{chain_of, on_place, chain}
 use Rattle.paper.specs.declared.Choice.{Choice}
 use Rattle.paper.specs.declared.Fault.{Fault}
-use Rattle.paper.specs.declared.Fault.TheVariants as Fault
 use Rattle.paper.specs.declared.Site.{Site}
 use Rattle.rounds.specs.Meaning.{Closed}
 use Rattle.rounds.proofs.Meaning.{settled_round}

@@ -1,9 +1,9 @@
 -- What is said of the chain: it is the one that is asked for, there is no other, and no record occurs in it twice.
+use Rattle.std.specs.Prelude.{Option, unwrap_or}
 use Prim.Native.Nat.{ℕ, ◌+◌, ◌≤◌, ◌<◌}
 use native.Mathlib.Omega.{arith}
 use mathlib.Core.Path.{ap, ◌≡◌, refl, sym, ◌∙◌}
 use mathlib.Core.Logic.{◌⊎◌, inl, inr}
-use mathlib.Core.Option.{Option, get_or, some-injective}
 use mathlib.Core.List.{List, [], ◌∷◌}
 use lib.ListN.{length, length-drop}
 use lib.IntN.{ℤ}
@@ -94,7 +94,7 @@ module _ (w : Waits) (closed : Closed w) (x : ℕ → ℤ) (sound : Sound w x) (
   unfolding chain_of
   chain_said k k< e = go (finds w x w.size i)
     where
-      go : {o : Option (List ℕ)} → Best (Held w x i) (Sooner w) w.size o → Chain w x i (get_or o [])
+      go : {o : Option (List ℕ)} → Best (Held w x i) (Sooner w) w.size o → Chain w x i (unwrap_or o [])
       go (all_long long) =
           let (m, low, last) = last_moved w closed x sound k i i< e in
           let (c, h, is) = moved_held (moved_chain w closed x sound m i i< last) in

@@ -11,7 +11,6 @@ use Rattle.paper.specs.Numbers.{number_of}
 use Rattle.paper.specs.Columns.{nowhere}
 use Rattle.paper.specs.Filling.{Filling, untouched, filled_with, on_list}
 use Rattle.paper.specs.declared.Fault.{Fault}
-use Rattle.paper.specs.declared.Fault.TheVariants as Fault
 use Rattle.paper.specs.declared.Site.{Site}
 use Rattle.demands.proofs.Numbers.{one_fault, some_number}
 use Rattle.causes.specs.Calls.{number, site, filled, items}

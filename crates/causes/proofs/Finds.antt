@@ -1,12 +1,13 @@
 -- The chain as it is computed: of the ways back that are kept exactly and have at most so many records, the one with the fewest steps that
 -- goes by the processor at the first step where two differ.
+use Rattle.std.specs.Prelude.{Option, Some, None, option_map}
+use Rattle.std.proofs.lemmas.Option.{same_Some, none-some}
 use Prim.Native.Nat.{ℕ, zero, suc}
 use native.Mathlib.Omega.{arith}
 use native.Mathlib.Decide.{ℕ_discrete}
 use mathlib.Core.Path.{◌≡◌, refl}
 use mathlib.Core.Logic.{◌⊎◌, inl, inr}
 use mathlib.Core.Bool.{Bool, true, false, cond}
-use mathlib.Core.Option.{Option, none, some, map, some-injective, none-ne-some}
 use mathlib.Core.List.{List, [], ◌∷◌}
 use lib.IntN.{ℤ, pos, ◌+ℤ◌}
 use Rattle.paper.specs.Tests.{eq_z}
@@ -23,23 +24,23 @@ use Rattle.causes.proofs.Best.{Best, all_long, foremost, best_same, best_before,
 -- ---- a step is to a record that is waited for exactly so long
 
 module _ (x : ℕ → ℤ) (time : ℤ) (v j : ℕ) where
-  pub exactly_some : (o : Option ℕ) → exactly x time v o ≡ some j → (o ≡ some j) × (time ≡ x j +ℤ pos v)
+  pub exactly_some : (o : Option ℕ) → exactly x time v o ≡ Some j → (o ≡ Some j) × (time ≡ x j +ℤ pos v)
   unfolding exactly
-  exactly_some none h = absurd (none-ne-some j h)
-  exactly_some (some k) h = go (eq_z time (x k +ℤ pos v)) refl h
+  exactly_some None h = absurd (none-some j h)
+  exactly_some (Some k) h = go (eq_z time (x k +ℤ pos v)) refl h
     where
-      go : (t : Bool) → eq_z time (x k +ℤ pos v) ≡ t → cond t (some k) none ≡ some j → (some k ≡ some j) × (time ≡ x j +ℤ pos v)
-      go true e h = (h, rw (some-injective k j h) at (eq_z_true time (x k +ℤ pos v) e))
-      go false e h = absurd (none-ne-some j h)
+      go : (t : Bool) → eq_z time (x k +ℤ pos v) ≡ t → cond t (Some k) None ≡ Some j → (Some k ≡ Some j) × (time ≡ x j +ℤ pos v)
+      go true e h = (h, rw (same_Some k j h) at (eq_z_true time (x k +ℤ pos v) e))
+      go false e h = absurd (none-some j h)
 
-  pub some_exactly : (o : Option ℕ) → o ≡ some j → time ≡ x j +ℤ pos v → exactly x time v o ≡ some j
+  pub some_exactly : (o : Option ℕ) → o ≡ Some j → time ≡ x j +ℤ pos v → exactly x time v o ≡ Some j
   unfolding exactly
   some_exactly o e kept = rw (e, kept, eq_z_same (x j +ℤ pos v))
 
 module _ (w : Waits) (x : ℕ → ℤ) where
   -- from the record of a step on
   abbrev Next : Option ℕ → List ℕ → Type 0
-  Next o c = (j : ℕ) × (o ≡ some j) × Held w x j c
+  Next o c = (j : ℕ) × (o ≡ Some j) × Held w x j c
 
   -- ---- one step
 
@@ -82,17 +83,17 @@ module _ (w : Waits) (x : ℕ → ℤ) where
   module _ (most : ℕ) (chain : ℕ → Option (List ℕ)) (found : (j : ℕ) → Best (Held w x j) (Sooner w) most (chain j)) where
     best_onto : (i : ℕ) (o : Option ℕ) → Best (Next o) (λ c d. Sooner w (i ∷ c) (i ∷ d)) most (onto chain o)
     unfolding onto
-    best_onto i none = all_long (λ d (j, e, h). absurd (none-ne-some j e))
-    best_onto i (some j) =
-        best_before (λ c d. later) (best_same (λ d h. (j, refl, h)) (λ d (k, e, h). rw (some-injective j k e) h) (found j))
+    best_onto i None = all_long (λ d (j, e, h). absurd (none-some j e))
+    best_onto i (Some j) =
+        best_before (λ c d. later) (best_same (λ d h. (j, refl, h)) (λ d (k, e, h). rw (same_Some j k e) h) (found j))
 
     best_step : (i : ℕ) → ¬ (x i ≡ w.original i)
-        → Best (Held w x i) (Sooner w) (suc most) (map (λ c. i ∷ c) (fewer (onto chain (processor i)) (onto chain (send i))))
+        → Best (Held w x i) (Sooner w) (suc most) (option_map (λ c. i ∷ c) (fewer (onto chain (processor i)) (onto chain (send i))))
     best_step i moved =
         best_same (goes_held i) (λ d. held_goes i d moved)
         (best_more i (best_fewer (processor_first i) (best_onto i (processor i)) (best_onto i (send i))))
 
-  best_still : (most i : ℕ) → x i ≡ w.original i → Best (Held w x i) (Sooner w) (suc most) (some (i ∷ []))
+  best_still : (most i : ℕ) → x i ≡ w.original i → Best (Held w x i) (Sooner w) (suc most) (Some (i ∷ []))
   best_still most i e =
       foremost
       (record { is = still e; short = omega arith; fewest = λ d h. omega (arith, held_some h); sooner = λ d h l. inl (held_one h (omega arith)) })
@@ -103,9 +104,9 @@ module _ (w : Waits) (x : ℕ → ℤ) where
   finds (suc most) i = go (eq_z (x i) (w.original i)) refl (best_step most (chain_in (steps_of w x) most) (finds most) i)
     where
       on : Option (List ℕ)
-      on = map (λ c. i ∷ c) (fewer (onto (chain_in (steps_of w x) most) (processor i)) (onto (chain_in (steps_of w x) most) (send i)))
+      on = option_map (λ c. i ∷ c) (fewer (onto (chain_in (steps_of w x) most) (processor i)) (onto (chain_in (steps_of w x) most) (send i)))
 
       go : (t : Bool) → eq_z (x i) (w.original i) ≡ t → (¬ (x i ≡ w.original i) → Best (Held w x i) (Sooner w) (suc most) on)
-          → Best (Held w x i) (Sooner w) (suc most) (cond t (some (i ∷ [])) on)
+          → Best (Held w x i) (Sooner w) (suc most) (cond t (Some (i ∷ [])) on)
       go true e step = best_still most i ((same_tells _ _).holds e)
       go false e step = step (untold (same_tells _ _) e)

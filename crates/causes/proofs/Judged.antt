@@ -10,7 +10,6 @@ use Rattle.paper.specs.Answer.{given, Found, stopped, reach}
 use Rattle.paper.specs.Filling.{Query, Filling, most_lent, judged, untouched, on_reached, fill}
 use Rattle.paper.specs.declared.Choice.{Choice}
 use Rattle.paper.specs.declared.Fault.{Fault}
-use Rattle.paper.specs.declared.Fault.TheVariants as Fault
 use Rattle.paper.specs.declared.Site.{Site}
 use Rattle.demands.specs.Steps.{Accepted, Chosen}
 use Rattle.demands.specs.Table.{When}

@@ -11,7 +11,6 @@ use Rattle.paper.specs.Filling.{Query, untouched, on_list}
 use Rattle.paper.specs.Messages.{messages_of, messages}
 use Rattle.paper.specs.declared.Choice.{Choice}
 use Rattle.paper.specs.declared.Fault.{Fault}
-use Rattle.paper.specs.declared.Fault.TheVariants as Fault
 use Rattle.paper.specs.declared.Pair.{Pair}
 use Rattle.paper.specs.declared.Site.{Site}
 use Rattle.demands.specs.Parts.{matched}

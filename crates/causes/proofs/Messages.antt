@@ -1,9 +1,10 @@
 -- The messages of the records: each receive with the send that it belongs to, in file order of receives, and that is one list only.
+use Rattle.std.specs.Prelude.{Some, Ok, is_some}
+use Rattle.std.proofs.lemmas.Option.{same_Some}
 use Prim.Native.Nat.{ℕ, zero, suc, ◌≤◌, ◌<◌}
 use native.Mathlib.Omega.{arith}
 use native.Mathlib.Decide.{dec_lt}
 use mathlib.Core.Path.{◌≡◌, refl, sym, ap, ◌∙◌}
-use mathlib.Core.Option.{some, some-injective}
 use mathlib.Core.List.{List}
 use lib.ListN.{length}
 use lib.Seq.{ext_get_or}
@@ -13,10 +14,8 @@ use Rattle.paper.specs.declared.Entry.{Entry}
 use Rattle.paper.specs.declared.Pair.{Pair}
 use Rattle.paper.specs.declared.Role.{Role}
 use Rattle.paper.specs.declared.Role.TheVariants.{Neither, Send, Receive}
-use Rattle.paper.specs.declared.Stop.TheVariants.{End}
 use Rattle.matching.specs.Belongs.{role, processor}
 use Rattle.matching.proofs.Count.{count_all, count_same}
-use Rattle.matching.proofs.Counts.{is_some}
 use Rattle.matching.proofs.Belong.{belongs, belongs_back}
 use Rattle.matching.proofs.Calls.{every_receive}
 use Rattle.matching.proofs.Own.{own_send}
@@ -29,10 +28,10 @@ pairs e f = cc
 module _ (es : List Entry) where
   -- ---- where all receives match
 
-  module _ (h : matched_of es ≡ End) where
+  module _ (h : matched_of es ≡ Ok tt) where
     -- the records that have a send are the receives
     sent_receives : (i : ℕ) → i < length es → is_some (send_of es i) ≡ is_receive (role es i)
-    unfolding send_of send_for is_some is_receive
+    unfolding send_of send_for is_receive
     sent_receives i l = go (role es i) refl
       where
         go : (r : Role) → role es i ≡ r → is_some (send_for es i (processor es i) r) ≡ is_receive r
@@ -58,7 +57,7 @@ module _ (es : List Entry) where
             order = r.order;
             own = λ k l k< l< e.
                 one_place k l k< l<
-                (own_send es _ _ (message list l).send (r.inside k k<) (r.inside l l<) (r.sends k k< ∙ ap (λ (j : ℕ). some j) e) (r.sends l l<));
+                (own_send es _ _ (message list l).send (r.inside k k<) (r.inside l l<) (r.sends k k< ∙ ap (λ (j : ℕ). Some j) e) (r.sends l l<));
           }
 
     pub messages_are : (share : ℕ) (table : List ℕ) → Messages es (messages_of (waits_of share table es))
@@ -102,4 +101,4 @@ module _ (es : List Entry) where
           let k<' : k < length b = omega (arith, long) in
           let received : (message a k).receive ≡ (message b k).receive = omega (arith, no_later a b p q k k<', no_later b a q p k k<) in
           let sent = belongs_back es _ _ (p.belongs k k<) in
-          pairs (some-injective _ _ (sym (rw received at sent) ∙ belongs_back es _ _ (q.belongs k k<'))) received
+          pairs (same_Some _ _ (sym (rw received at sent) ∙ belongs_back es _ _ (q.belongs k k<'))) received

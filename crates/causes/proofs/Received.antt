@@ -1,9 +1,10 @@
 -- "in file order of receives": the messages that the first records receive, listed one record after the other.
+use Rattle.std.specs.Prelude.{Option, Some, None, is_some}
+use Rattle.std.proofs.lemmas.Option.{none-some}
 use Prim.Native.Nat.{ℕ, zero, suc, ◌+◌, ◌<◌}
 use native.Mathlib.Omega.{arith}
 use native.Mathlib.Decide.{dec_lt}
 use mathlib.Core.Path.{◌≡◌, refl, sym, ◌∙◌}
-use mathlib.Core.Option.{Option, none, some, none-ne-some}
 use mathlib.Core.List.{List, [], ◌∷◌, ◌++◌, append-nil}
 use lib.ListN.{length, length-append, get_or-append}
 use lib.Seq.{get_or-append_seam}
@@ -11,21 +12,20 @@ use borrow.Author.Count.{below_more}
 use Rattle.paper.specs.Messages.{message_at, messages_to}
 use Rattle.paper.specs.declared.Pair.{Pair}
 use Rattle.matching.proofs.Count.{count, bit}
-use Rattle.matching.proofs.Counts.{is_some}
 use Rattle.causes.specs.Listed.{message}
 
 -- these are the messages that the first n records receive, each from its send
 pub record Received (send : ℕ → Option ℕ) (n : ℕ) (list : List Pair) : Type 0 where
   pub many : length list ≡ count (λ i. is_some (send i)) n
   pub inside : (k : ℕ) → k < length list → (message list k).receive < n
-  pub sends : (k : ℕ) → k < length list → send (message list k).receive ≡ some (message list k).send
-  pub all : (i j : ℕ) → i < n → send i ≡ some j → (k : ℕ) × (k < length list) × ((message list k).receive ≡ i)
+  pub sends : (k : ℕ) → k < length list → send (message list k).receive ≡ Some (message list k).send
+  pub all : (i j : ℕ) → i < n → send i ≡ Some j → (k : ℕ) × (k < length list) × ((message list k).receive ≡ i)
   pub order : (k l : ℕ) → k < l → l < length list → (message list k).receive < (message list l).receive
 
 module _ (send : ℕ → Option ℕ) (n : ℕ) (list : List Pair) (r : Received send n list) where
   -- the next record receives nothing
-  no_more : send n ≡ none → Received send (suc n) list
-  unfolding count bit is_some
+  no_more : send n ≡ None → Received send (suc n) list
+  unfolding count bit
   no_more e =
       record {
         many = rw e (omega (arith, r.many));
@@ -35,11 +35,11 @@ module _ (send : ℕ → Option ℕ) (n : ℕ) (list : List Pair) (r : Received 
         order = r.order;
       }
     where
-      below : (i j : ℕ) → i < suc n → send i ≡ some j → i < n
-      below i j l s = let other : ¬ (i ≡ n) = λ z. none-ne-some j (sym e ∙ rw z at s) in omega arith
+      below : (i j : ℕ) → i < suc n → send i ≡ Some j → i < n
+      below i j l s = let other : ¬ (i ≡ n) = λ z. none-some j (sym e ∙ rw z at s) in omega arith
 
   -- the next record receives a message from record j
-  module _ (j : ℕ) (e : send n ≡ some j) where
+  module _ (j : ℕ) (e : send n ≡ Some j) where
     abbrev longer : List Pair
     longer = list ++ (record { send = j; receive = n } ∷ [])
 
@@ -58,18 +58,18 @@ module _ (send : ℕ → Option ℕ) (n : ℕ) (list : List Pair) (r : Received 
     each P before new k l =
         below_more (λ k. P k (message longer k)) (length list) (λ k l. rw (as_before k l) (before k l)) (rw at_end new) k (omega (arith, long))
 
-    found : (i k : ℕ) → i < suc n → send i ≡ some k → Dec (i < n) → (m : ℕ) × (m < length longer) × ((message longer m).receive ≡ i)
+    found : (i k : ℕ) → i < suc n → send i ≡ Some k → Dec (i < n) → (m : ℕ) × (m < length longer) × ((message longer m).receive ≡ i)
     found i k l s (yes less) =
         let (m, m<, is) = r.all i k less s in (m, omega (arith, long), rw (as_before m m<) is)
     found i k l s (no less) = let z : n ≡ i = omega arith in (length list, omega (arith, long), rw at_end z)
 
     one_more : Received send (suc n) longer
-    unfolding count bit is_some
+    unfolding count bit
     one_more =
         record {
           many = rw (e, long) (omega (arith, r.many));
           inside = each (λ k m. m.receive < suc n) (λ k l. omega (arith, r.inside k l)) (omega arith);
-          sends = each (λ k m. send m.receive ≡ some m.send) r.sends e;
+          sends = each (λ k m. send m.receive ≡ Some m.send) r.sends e;
           all = λ i k l s. found i k l s (dec_lt i n);
           order = λ k l less l<.
               each (λ l m. (k : ℕ) → k < l → (message longer k).receive < m.receive)
@@ -90,5 +90,5 @@ received send zero =
 received send (suc n) = go (send n) refl (received send n)
   where
     go : (o : Option ℕ) → send n ≡ o → Received send n (messages_to send n) → Received send (suc n) (messages_to send n ++ message_at n o)
-    go none e r = rw (append-nil (messages_to send n)) (no_more send n (messages_to send n) r e)
-    go (some j) e r = one_more send n (messages_to send n) r j e
+    go None e r = rw (append-nil (messages_to send n)) (no_more send n (messages_to send n) r e)
+    go (Some j) e r = one_more send n (messages_to send n) r j e

@@ -1,13 +1,12 @@
 -- "Give one with the fewest steps, and among those, at the first step where two differ, the processor's step before the send's."
-use Rattle.std.specs.Prelude.{ℕ, ◌+◌, ◌≤◌, ◌<◌, ◌≡◌, ◌⊎◌, ◌↔◌, List, [], ◌∷◌, length, ℤ, pos, ◌+ℤ◌}
-use Rattle.std.proofs.Math.Option.{some}
+use Rattle.std.specs.Prelude.{ℕ, ◌+◌, ◌≤◌, ◌<◌, ◌≡◌, ◌⊎◌, ◌↔◌, List, [], ◌∷◌, length, ℤ, pos, ◌+ℤ◌, Some}
 use Rattle.paper.specs.Clock.{Waits}
 use Rattle.rounds.specs.Meaning.{Wait}
 use Rattle.causes.specs.Back.{Explains, Once, at}
 
 -- at the first step where the two differ, the first one goes to the record before on the processor
 pub data Sooner (w : Waits) : List ℕ → List ℕ → Type 0 where
-  now : {i j k : ℕ} {c d : List ℕ} → w.before i ≡ some j → ¬ (j ≡ k) → Sooner w (i ∷ j ∷ c) (i ∷ k ∷ d)
+  now : {i j k : ℕ} {c d : List ℕ} → w.before i ≡ Some j → ¬ (j ≡ k) → Sooner w (i ∷ j ∷ c) (i ∷ k ∷ d)
   later : {i : ℕ} {c d : List ℕ} → Sooner w c d → Sooner w (i ∷ c) (i ∷ d)
 
 -- the chain that is asked for

@@ -5,7 +5,6 @@ use Rattle.paper.specs.Columns.{nowhere}
 use Rattle.paper.specs.Chain.{chain_of}
 use Rattle.paper.specs.Filling.{Query}
 use Rattle.paper.specs.declared.Fault.{Fault}
-use Rattle.paper.specs.declared.Fault.TheVariants as Fault
 use Rattle.paper.specs.declared.Pair.{Pair}
 use Rattle.paper.specs.declared.Site.{Site}
 use Rattle.demands.specs.Parts.{listed, matched, time}

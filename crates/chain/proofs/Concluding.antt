@@ -1,4 +1,5 @@
 -- What the ending of a call comes to, of a call that came so far.
+use Rattle.std.specs.Prelude.{Result, Ok, Err}
 use Prim.Native.Nat.{ℕ, ◌-◌, ◌≤◌, ◌<◌}
 use native.Mathlib.Nat.{sub-zero}
 use native.Mathlib.Omega.{arith}
@@ -16,20 +17,20 @@ use Rattle.paper.specs.Filling.{Query, query, untouched, judged, on_reached, fil
 use Rattle.paper.specs.Matching.{waits_of}
 use Rattle.paper.specs.declared.Fault.{Fault}
 use Rattle.paper.specs.declared.Filled.{Filled}
+use Rattle.paper.specs.declared.Refusal.{Refusal}
 use Rattle.paper.specs.declared.Site.{Site}
 use Rattle.store.specs.Layout.{entries_in}
 use Rattle.chains.proofs.Places.{length_places}
-use Rattle.reach.specs.declared.Reached.{Reached}
-use Rattle.reach.specs.declared.Reached.TheVariants.{Times, Refused, Misfit}
 use Rattle.reach.specs.Reach.{reaches}
 use Rattle.reach.proofs.Means.{found_means}
 use Rattle.answer.specs.declared.Counts.{Counts}
 use Rattle.answer.specs.Answers.{unfilling}
 use Rattle.chain.specs.Call.{Rooms, Found, ExplainedBy, Places, WithPlaces, ConcludedBy}
+use Rattle.reach.specs.declared.Unreached.{Unreached}
 
 -- ---- the first places of the slices, one for each listed record
 
-pub within : {reached : Reached} {times : List ℤ} {sends : List ℕ} → WithPlaces reached times sends → {counts : Counts} → reached ≡ Times counts
+pub within : {reached : Result Counts Unreached} {times : List ℤ} {sends : List ℕ} → WithPlaces reached times sends → {counts : Counts} → reached ≡ Ok counts
     → Places counts.listed times sends
 unfolding WithPlaces
 within enough e = rw e at enough
@@ -64,17 +65,17 @@ rooms_cut times f spare before latency ranks after receive a b c d e g =
 
 -- ---- however far the call came
 
-module _ (latencies : List ℕ) (share place : ℕ) (store : List ℕ) (times : List ℤ) (sends list : List ℕ) {reached : Reached} where
-  pub concluded_refused : {fault : Fault} {site : Site} → reached ≡ Refused fault site → {r : Filled} → r ≡ unfilling fault site
+module _ (latencies : List ℕ) (share place : ℕ) (store : List ℕ) (times : List ℤ) (sends list : List ℕ) {reached : Result Counts Unreached} where
+  pub concluded_refused : {refused : Refusal} {why : Unreached} → reached ≡ Err why → why ≡ Unreached.Refused refused → {r : Filled} → r ≡ unfilling refused.fault refused.site
       → ConcludedBy reached latencies share place store times sends list r list
   unfolding reaches unfilling chain fill on_reached untouched
-  concluded_refused e a = record { gives = λ trace asked same says. let stops = rw e at says in rw (a, stops) }
+  concluded_refused e told a = record { gives = λ trace asked same says. let stops = rw (e, told) at says in rw (a, stops) }
 
-  pub concluded_never : reached ≡ Misfit → {r : Filled} {list' : List ℕ} → ConcludedBy reached latencies share place store times sends list r list'
+  pub concluded_never : {why : Unreached} → reached ≡ Err why → why ≡ Unreached.Misfit → {r : Filled} {list' : List ℕ} → ConcludedBy reached latencies share place store times sends list r list'
   unfolding reaches
-  concluded_never e = record { gives = λ trace asked same says. absurd (rw e at says) }
+  concluded_never e told = record { gives = λ trace asked same says. absurd (rw (e, told) at says) }
 
-  module _ {counts : Counts} (e : reached ≡ Times counts) where
+  module _ {counts : Counts} (e : reached ≡ Ok counts) where
     -- "a place not below the listed count is 22"
     pub concluded_outside : counts.listed ≤ place → {site : Site} → site ≡ nowhere → {r : Filled} → r ≡ unfilling Fault.NoPlace site
         → ConcludedBy reached latencies share place store times sends list r list
@@ -104,13 +105,13 @@ module _ (latencies : List ℕ) (share place : ℕ) (store : List ℕ) (times : 
         }
 
 -- a time and a send's place for each listed record, of a call that came to its times
-pub with_places : (q : Query) (reached : Reached) (store sends : List ℕ) (times : List ℤ) → reaches q.trace (reach (judged q)) reached store sends times
+pub with_places : (q : Query) (reached : Result Counts Unreached) (store sends : List ℕ) (times : List ℤ) → reaches q.trace (reach (judged q)) reached store sends times
     → length sends ≡ 2048 → length times ≡ 2048 → WithPlaces reached times sends
 unfolding WithPlaces reaches
-with_places q (Times counts) store sends times (f, is, held) size size' =
+with_places q (Ok counts) store sends times (f, is, held) size size' =
     let long : length (take counts.listed sends) ≡ counts.listed =
     ap (λ (l : List ℕ). length l) held.places ∙ length_places f.reading.entries ∙ held.listed in
     let enough = take-le counts.listed sends in
     record { few = omega (arith, long, enough, size); with_times = omega (arith, long, enough, size, size'); with_sends = omega (arith, long, enough) }
-with_places q (Refused fault site) store sends times says size size' = tt
-with_places q Misfit store sends times says size size' = tt
+with_places q (Err (Unreached.Refused refusal)) store sends times says size size' = tt
+with_places q (Err Unreached.Misfit) store sends times says size size' = tt

@@ -1,11 +1,10 @@
 -- No record is led to by two steps of a kind: it is the record before one record only, and each receive has a send of its own.
+use Rattle.std.specs.Prelude.{Option, Some, unwrap_or}
 use Prim.Native.Nat.{ℕ, ◌<◌}
 use native.Mathlib.Omega.{arith}
 use native.Mathlib.Decide.{dec_lt}
 use mathlib.Core.Path.{◌≡◌, refl, sym, ap, ◌∙◌}
 use mathlib.Core.Bool.{Bool, true, false, cond, ◌&&◌}
-use mathlib.Core.Option
-use mathlib.Core.Option.{Option, some}
 use mathlib.Core.List.{List}
 use lib.ListN.{length, get_or}
 use lib.Dec.{ltb}
@@ -27,22 +26,22 @@ use Rattle.ranks.specs.Ranked.{at, OneEach}
 
 -- ---- what is told once of each record
 
-module _ (n : ℕ) (f : ℕ → Option ℕ) (own : (i k j : ℕ) → i < n → k < n → f i ≡ some j → f k ≡ some j → i ≡ k) where
-  table_single : OneEach (listed n (λ i. Option.get_or (f i) n))
+module _ (n : ℕ) (f : ℕ → Option ℕ) (own : (i k j : ℕ) → i < n → k < n → f i ≡ Some j → f k ≡ Some j → i ≡ k) where
+  table_single : OneEach (listed n (λ i. unwrap_or (f i) n))
   table_single i k i< k< e l =
-      let size = length_listed n (λ m. Option.get_or (f m) n) in
+      let size = length_listed n (λ m. unwrap_or (f m) n) in
       let i≤ : i < n = omega (arith, i<, size) in
       let k≤ : k < n = omega (arith, k<, size) in
-      let at_i = listed_at n (λ m. Option.get_or (f m) n) i 0 i≤ in
-      let at_k = listed_at n (λ m. Option.get_or (f m) n) k 0 k≤ in
-      let low : Option.get_or (f i) n < n = omega (arith, at_i, l, size) in
-      let same : Option.get_or (f k) n ≡ Option.get_or (f i) n = sym at_k ∙ sym e ∙ at_i in
-      own i k (Option.get_or (f i) n) i≤ k≤ (some_place n (f i) low) (some_place n (f k) (rw same low) ∙ ap (λ (j : ℕ). some j) same)
+      let at_i = listed_at n (λ m. unwrap_or (f m) n) i 0 i≤ in
+      let at_k = listed_at n (λ m. unwrap_or (f m) n) k 0 k≤ in
+      let low : unwrap_or (f i) n < n = omega (arith, at_i, l, size) in
+      let same : unwrap_or (f k) n ≡ unwrap_or (f i) n = sym at_k ∙ sym e ∙ at_i in
+      own i k (unwrap_or (f i) n) i≤ k≤ (some_place n (f i) low) (some_place n (f k) (rw same low) ∙ ap (λ (j : ℕ). Some j) same)
 
 -- ---- the two tables
 
 module _ (es : List Entry) where
-  own_before : (i k j : ℕ) → i < length es → k < length es → last_on es (processor_at es i) i ≡ some j → last_on es (processor_at es k) k ≡ some j → i ≡ k
+  own_before : (i k j : ℕ) → i < length es → k < length es → last_on es (processor_at es i) i ≡ Some j → last_on es (processor_at es k) k ≡ Some j → i ≡ k
   own_before i k j i< k< e f = go (last_on_lem es (processor_at es i) i j e) (last_on_lem es (processor_at es k) k j f) (dec_lt i k) (dec_lt k i)
     where
       go : LastOn es (processor_at es i) i j → LastOn es (processor_at es k) k j → Dec (i < k) → Dec (k < i) → i ≡ k

@@ -1,11 +1,11 @@
 -- The walk by the fewest steps of each record is the definition's chain: of those of at most so many records.
+use Rattle.std.specs.Prelude.{Option, Some, None, option_map, unwrap_or}
 use Prim.Native.Nat.{ℕ, zero, suc, ◌≤◌, ◌<◌}
 use native.Mathlib.Omega.{arith}
 use native.Mathlib.Decide.{dec_lt}
 use mathlib.Core.Path.{◌≡◌, refl, sym, ap, ◌∙◌}
 use mathlib.Core.Logic.{◌⊎◌, inl, inr, ⊎_elim}
 use mathlib.Core.Bool.{Bool, true, false, cond, true≢false}
-use mathlib.Core.Option.{Option, none, some, map, get_or}
 use mathlib.Core.List.{List, [], ◌∷◌}
 use borrow.Author.Tests.{lt-ltb, le-ltb, eq-eqb, ne_eqb}
 use lib.Dec.{ltb}
@@ -23,18 +23,18 @@ module _ (first second ranks : List ℕ) where
 
   -- the walk of at most m records
   walked : ℕ → ℕ → Option (List ℕ)
-  walked m i = cond (ltb (rank i) m) (some (way first second ranks (rank i) i)) none
+  walked m i = cond (ltb (rank i) m) (Some (way first second ranks (rank i) i)) None
 
-  walked_some : (m i : ℕ) → rank i < m → walked m i ≡ some (way first second ranks (rank i) i)
+  walked_some : (m i : ℕ) → rank i < m → walked m i ≡ Some (way first second ranks (rank i) i)
   unfolding walked
   walked_some m i l = rw (lt-ltb (rank i) m l)
 
-  walked_none : (m i : ℕ) → m ≤ rank i → walked m i ≡ none
+  walked_none : (m i : ℕ) → m ≤ rank i → walked m i ≡ None
   unfolding walked
   walked_none m i l = rw (le-ltb (rank i) m l)
 
   -- by whether it has at most m
-  by_most : (P : Option (List ℕ) → Type 0) (m i : ℕ) → (rank i < m → P (some (way first second ranks (rank i) i))) → (m ≤ rank i → P none) → P (walked m i)
+  by_most : (P : Option (List ℕ) → Type 0) (m i : ℕ) → (rank i < m → P (Some (way first second ranks (rank i) i))) → (m ≤ rank i → P None) → P (walked m i)
   by_most P m i short long = go (dec_lt (rank i) m)
     where
       go : Dec (rank i < m) → P (walked m i)
@@ -49,29 +49,29 @@ module _ (first second ranks : List ℕ) where
     abbrev b : ℕ
     b = at second i
 
-    first_walk : (k : ℕ) → k < m → rank a ≡ k → k ≤ rank b → fewer (walked m a) (walked m b) ≡ some (way first second ranks k (next first second ranks k i))
+    first_walk : (k : ℕ) → k < m → rank a ≡ k → k ≤ rank b → fewer (walked m a) (walked m b) ≡ Some (way first second ranks k (next first second ranks k i))
     unfolding fewer next
     first_walk k k< is most =
         rw (walked_some m a (omega (arith, is)), is, eq-eqb k k refl)
-        (by_most (λ d. fewer (some (way first second ranks k a)) d ≡ some (way first second ranks k a)) m b
+        (by_most (λ d. fewer (Some (way first second ranks k a)) d ≡ Some (way first second ranks k a)) m b
         (λ l. rw (way_length first second ranks (rank b) b, way_length first second ranks k a, le-ltb (suc (rank b)) (suc k) (omega arith)))
         (λ l. refl))
 
-    second_walk : (k : ℕ) → k < m → k < rank a → rank b ≡ k → fewer (walked m a) (walked m b) ≡ some (way first second ranks k (next first second ranks k i))
+    second_walk : (k : ℕ) → k < m → k < rank a → rank b ≡ k → fewer (walked m a) (walked m b) ≡ Some (way first second ranks k (next first second ranks k i))
     unfolding fewer next
     second_walk k k< more is =
         rw (walked_some m b (omega (arith, is)), is, ne_eqb (rank a) k (λ q. omega arith))
-        (by_most (λ c. fewer c (some (way first second ranks k b)) ≡ some (way first second ranks k b)) m a
+        (by_most (λ c. fewer c (Some (way first second ranks k b)) ≡ Some (way first second ranks k b)) m a
         (λ l. rw (way_length first second ranks (rank a) a, way_length first second ranks k b, lt-ltb (suc k) (suc (rank a)) (omega arith)))
         (λ l. refl))
 
-    no_walk : m ≤ rank a → m ≤ rank b → fewer (walked m a) (walked m b) ≡ none
+    no_walk : m ≤ rank a → m ≤ rank b → fewer (walked m a) (walked m b) ≡ None
     unfolding fewer
     no_walk p q = rw (walked_none m a p, walked_none m b q)
 
     -- what its two steps lead to
     abbrev on : Option (List ℕ)
-    on = map (λ (c : List ℕ). i ∷ c) (fewer (walked m a) (walked m b))
+    on = option_map (λ (c : List ℕ). i ∷ c) (fewer (walked m a) (walked m b))
 
     record Known : Type 0 where
       steps : ¬ (rank i ≡ 0)
@@ -84,11 +84,11 @@ module _ (first second ranks : List ℕ) where
     goes_on_lem h = by_rank (rank i) refl
       where
         choose : (k : ℕ) → rank i ≡ suc k → suc k ≤ m → (rank a ≡ k) ⊎ (rank b ≡ k)
-            → fewer (walked m a) (walked m b) ≡ some (way first second ranks k (next first second ranks k i))
+            → fewer (walked m a) (walked m b) ≡ Some (way first second ranks k (next first second ranks k i))
         choose k is l (inl e) = first_walk k (omega arith) e (omega (arith, h.near_second, is))
         choose k is l (inr e) = go (dec_lt k (rank a))
           where
-            go : Dec (k < rank a) → fewer (walked m a) (walked m b) ≡ some (way first second ranks k (next first second ranks k i))
+            go : Dec (k < rank a) → fewer (walked m a) (walked m b) ≡ Some (way first second ranks k (next first second ranks k i))
             go (yes more) = second_walk k (omega arith) more e
             go (no less) = first_walk k (omega arith) (omega (arith, h.near_first, is, less)) (omega (arith, e))
 
@@ -159,13 +159,13 @@ module _ (s : Steps) (n : ℕ) (first second ends ranks : List ℕ) (linked : Li
 
   -- its chain of at most m records is the walk
   module _ (m : ℕ) (m< : suc m ≤ n) (earlier : (j : ℕ) → j < n → chain_in s m j ≡ walked first second ranks m j) (i : ℕ) (i< : i < n) where
-    stays : s.ends i ≡ true → some (i ∷ []) ≡ walked first second ranks (suc m) i
+    stays : s.ends i ≡ true → Some (i ∷ []) ≡ walked first second ranks (suc m) i
     unfolding way
     stays e =
         let none_left : fewest i ≡ 0 = inside i i< ∙ (ranked.ends i i<).1 ((linked.end i i<).0 e) in
         rw (walked_some first second ranks (suc m) i (omega (arith, none_left)), none_left)
 
-    moves : s.ends i ≡ false → map (λ c. i ∷ c) (fewer (onto (chain_in s m) (s.processor i)) (onto (chain_in s m) (s.send i)))
+    moves : s.ends i ≡ false → option_map (λ c. i ∷ c) (fewer (onto (chain_in s m) (s.processor i)) (onto (chain_in s m) (s.send i)))
         ≡ walked first second ranks (suc m) i
     moves e =
         rw (
@@ -181,7 +181,7 @@ module _ (s : Steps) (n : ℕ) (first second ends ranks : List ℕ) (linked : Li
     one_more = go (s.ends i) refl
       where
         go : (b : Bool) → s.ends i ≡ b
-            → cond b (some (i ∷ [])) (map (λ c. i ∷ c) (fewer (onto (chain_in s m) (s.processor i)) (onto (chain_in s m) (s.send i))))
+            → cond b (Some (i ∷ [])) (option_map (λ c. i ∷ c) (fewer (onto (chain_in s m) (s.processor i)) (onto (chain_in s m) (s.send i))))
             ≡ walked first second ranks (suc m) i
         go true e = stays e
         go false e = moves e
@@ -192,10 +192,10 @@ module _ (s : Steps) (n : ℕ) (first second ends ranks : List ℕ) (linked : Li
   chain_walked (suc m) m≤ i i< = one_more m m≤ (λ j l. chain_walked m (omega arith) j l) i i<
 
   -- the whole chain
-  pub chain_way : (i : ℕ) → i < n → get_or (chain_in s n i) [] ≡ way_at first second ranks i
+  pub chain_way : (i : ℕ) → i < n → unwrap_or (chain_in s n i) [] ≡ way_at first second ranks i
   unfolding way_at walked
   chain_way i i< = rw (chain_walked n (omega arith) i i<, ranked.size) (go (ltb (fewest i) n))
     where
-      go : (b : Bool) → get_or (cond b (some (way first second ranks (fewest i) i)) none) [] ≡ cond b (way first second ranks (fewest i) i) []
+      go : (b : Bool) → unwrap_or (cond b (Some (way first second ranks (fewest i) i)) None) [] ≡ cond b (way first second ranks (fewest i) i) []
       go true = refl
       go false = refl

@@ -1,11 +1,11 @@
 -- The tables that the code makes are those of the definition's steps.
+use Rattle.std.specs.Prelude.{Some, None}
 use Prim.Native.Nat.{ℕ, ◌≤◌, ◌<◌}
 use native.Mathlib.Omega.{arith}
 use native.Mathlib.Decide.{dec_lt}
 use mathlib.Core.Path.{◌≡◌, refl, sym, ap, ◌∙◌}
 use mathlib.Core.Logic.{◌↔◌}
 use mathlib.Core.Bool.{Bool, true, false, cond, false≢true}
-use mathlib.Core.Option.{none, some}
 use mathlib.Core.List.{List}
 use borrow.Author.Tests.{lt-ltb, le-ltb}
 use lib.ListN.{length, get_or}
@@ -34,7 +34,7 @@ module _ (times : List ℤ) where
   unfolding exact_at exactly
   exact_place wait i j = by_place (dec_lt j n)
     where
-      kept : (b : Bool) → j < n → place n (cond b j n) ≡ cond b (some j) none
+      kept : (b : Bool) → j < n → place n (cond b j n) ≡ cond b (Some j) None
       kept true l = place_at l
       kept false l = place_none {j = n} {n = n} (omega arith)
 

@@ -1,5 +1,5 @@
 -- The call, and what the functions below it have in hand.
-use Rattle.std.specs.Prelude.{ℕ, ◌≤◌, ◌<◌, ◌≡◌, List, length, ℤ}
+use Rattle.std.specs.Prelude.{ℕ, ◌≤◌, ◌<◌, ◌≡◌, List, length, ℤ, Result, Ok, Err}
 use Rattle.paper.specs.Answer.{reach}
 use Rattle.paper.specs.Chain as paper
 use Rattle.paper.specs.Clock.{time_at}
@@ -12,9 +12,9 @@ use Rattle.store.specs.Layout.{too_many}
 use Rattle.chains.specs.Places.{places_of}
 use Rattle.waits.specs.Tables.{originals_of, befores_of, gaps_of, latencies_of}
 use Rattle.steps.specs.Tables.{exact_table, end_ranks}
-use Rattle.reach.specs.declared.Reached.{Reached}
-use Rattle.reach.specs.declared.Reached.TheVariants.{Times, Refused, Misfit}
 use Rattle.reach.specs.Reach.{reaches}
+use Rattle.reach.specs.declared.Unreached.{Unreached}
+use Rattle.answer.specs.declared.Counts.{Counts}
 
 -- ---- the steps
 
@@ -59,13 +59,13 @@ pub record Places (listed : ℕ) (times : List ℤ) (sends : List ℕ) : Type 0 
   pub with_times : listed ≤ length times
   pub with_sends : listed ≤ length sends
 
-unfoldable pub WithPlaces : Reached → List ℤ → List ℕ → Type 0
-WithPlaces (Times counts) times sends = Places counts.listed times sends
-WithPlaces (Refused fault site) times sends = Unit
-WithPlaces Misfit times sends = Unit
+unfoldable pub WithPlaces : Result Counts Unreached → List ℤ → List ℕ → Type 0
+WithPlaces (Ok counts) times sends = Places counts.listed times sends
+WithPlaces (Err (Unreached.Refused refusal)) times sends = Unit
+WithPlaces (Err Unreached.Misfit) times sends = Unit
 
 -- whatever the trace and what the caller named beside the share: where the call came so far with them, it comes to this
-pub record ConcludedBy (reached : Reached) (latencies : List ℕ) (share place : ℕ) (store : List ℕ) (times : List ℤ) (sends list : List ℕ) (r : Filled)
+pub record ConcludedBy (reached : Result Counts Unreached) (latencies : List ℕ) (share place : ℕ) (store : List ℕ) (times : List ℤ) (sends list : List ℕ) (r : Filled)
     (list' : List ℕ) : Type 0 where
   pub gives : (trace : List ℕ) (asked : Asked) → asked.share ≡ share → reaches trace (reach (judged (query trace latencies asked))) reached store sends times
       → filling r list' ≡ paper.chain (query trace latencies asked) place list

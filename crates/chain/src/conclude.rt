@@ -3,76 +3,62 @@ ghost use Rattle.std.specs.Prelude.{◌<◌, length};
 ghost use Rattle.store.specs.Layout.{entries_in};
 ghost use Rattle.chain.specs.Call.{Rooms, Found, ExplainedBy, WithPlaces, ConcludedBy};
 
-use crate::exact::steps_into;
+use crate::exact::Records;
+use answer::Counts;
 use paper::{Fault, Filled};
-use reach::Reached;
+use reach::Unreached;
 
-// The steps laid out, the fewest of each record counted, and the walk.
-fn explain_in(
-    latencies: &[u32],
-    share: u32,
-    place: u64,
-    store: &[u32],
-    times: &[i64],
-    spare: &mut [i64],
-    before: &mut [u32],
-    sends: &mut [u32],
-    latency: &mut [u32],
-    ranks: &mut [u32],
-    after: &mut [u32],
-    receive: &mut [u32],
-    list: &mut [u64],
-) -> Filled
-    requires rooms { Rooms (length times.now) spare.old before.old sends.old latency.old ranks.old after.old receive.old }
-    requires place_in_bounds { place < length times.now }
-    ensures { ExplainedBy share latencies.now (entries_in store.now (length times.now)) times.now sends.old place list.old result list.new }
-{
-    steps_into(
-        store, latencies, share, times, spare, before, sends, latency, ranks,
-    );
-    ranks::ranks_into(before, sends, ranks, latency, after, receive);
-    walk::fill(before, sends, ranks, place as u32, list)
-}
+impl Records<'_> {
+    // The steps laid out, the fewest of each record counted, and the walk.
+    fn explain_in(
+        self,
+        place: u64,
+        spare: &mut [i64],
+        before: &mut [u32],
+        sends: &mut [u32],
+        latency: &mut [u32],
+        ranks: &mut [u32],
+        after: &mut [u32],
+        receive: &mut [u32],
+        list: &mut [u64],
+    ) -> Filled
+        requires rooms { Rooms (length self.times.now) spare.old before.old sends.old latency.old ranks.old after.old receive.old }
+        requires place_in_bounds { place < length self.times.now }
+        ensures { ExplainedBy self.entry.share self.entry.latencies.now (entries_in self.entry.store.now (length self.entry.times.now)) self.entry.times.now sends.old place list.old result list.new }
+    {
+        self.steps_into(spare, before, sends, latency, ranks);
+        ranks::ranks_into(before, sends, ranks, latency, after, receive);
+        walk::fill(before, sends, ranks, place as u32, list)
+    }
 
-// The times were found, and there is such a record. The arrays that the work needs beside what was found stand here.
-fn explain(
-    latencies: &[u32],
-    share: u32,
-    place: u64,
-    store: &[u32],
-    times: &[i64],
-    sends: &mut [u32],
-    list: &mut [u64],
-) -> Filled
-    requires { Found times.now sends.old place }
-    ensures { ExplainedBy share latencies.now (entries_in store.now (length times.now)) times.now sends.old place list.old result list.new }
-{
-    let n = times.len();
-    let mut spare = seek::blanks();
-    let mut before = seek::places();
-    let mut latency = seek::places();
-    let mut ranks = seek::places();
-    let mut after = seek::places();
-    let mut receive = seek::places();
-    explain_in(
-        latencies,
-        share,
-        place,
-        store,
-        times,
-        &mut spare[0..n],
-        &mut before[0..n],
-        sends,
-        &mut latency[0..n],
-        &mut ranks[0..n],
-        &mut after[0..n],
-        &mut receive[0..n],
-        list,
-    )
+    // The times were found, and there is such a record. The arrays that the work needs beside what was found stand here.
+    fn explain(self, place: u64, sends: &mut [u32], list: &mut [u64]) -> Filled
+        requires { Found self.times.now sends.old place }
+        ensures { ExplainedBy self.entry.share self.entry.latencies.now (entries_in self.entry.store.now (length self.entry.times.now)) self.entry.times.now sends.old place list.old result list.new }
+    {
+        let n = self.times.len();
+        let mut spare = seek::blanks();
+        let mut before = seek::places();
+        let mut latency = seek::places();
+        let mut ranks = seek::places();
+        let mut after = seek::places();
+        let mut receive = seek::places();
+        self.explain_in(
+            place,
+            &mut spare[0..n],
+            &mut before[0..n],
+            sends,
+            &mut latency[0..n],
+            &mut ranks[0..n],
+            &mut after[0..n],
+            &mut receive[0..n],
+            list,
+        )
+    }
 }
 
 pub(crate) fn conclude(
-    reached: Reached,
+    reached: Result<Counts, Unreached>,
     latencies: &[u32],
     share: u32,
     place: u64,
@@ -85,23 +71,21 @@ pub(crate) fn conclude(
     ensures { ConcludedBy reached latencies.now share place store.now times.now sends.old list.old result list.new }
 {
     match reached {
-        Reached::Times(counts) => {
+        Ok(counts) => {
             let n = counts.listed;
             if n as u64 <= place {
                 return answer::unfilled(Fault::NoPlace, answer::nowhere());
             }
-            explain(
+            let records = Records {
+                store,
+                times: &times[0..n],
                 latencies,
                 share,
-                place,
-                store,
-                &times[0..n],
-                &mut sends[0..n],
-                list,
-            )
+            };
+            records.explain(place, &mut sends[0..n], list)
         }
-        Reached::Refused(fault, site) => answer::unfilled(fault, site),
+        Err(Unreached::Refused(refusal)) => answer::unfilled(refusal.fault, refusal.site),
         // never: the slices of a call are made for as many records as it may list
-        Reached::Misfit => answer::unfilled(Fault::NoTimes, answer::nowhere()),
+        Err(Unreached::Misfit) => answer::unfilled(Fault::NoTimes, answer::nowhere()),
     }
 }

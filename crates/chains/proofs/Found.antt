@@ -1,13 +1,12 @@
 -- The search finds the send: behind the receives before place `from`, the next send under the key is the one that a receive
 -- there belongs to.
+use Rattle.std.specs.Prelude.{Option, Some, None, unwrap_or}
 use Prim.Native.Nat.{ℕ, zero, suc, ◌+◌, ◌≤◌, ◌<◌}
 use native.Mathlib.Omega.{arith}
 use native.Mathlib.Decide.{dec_lt}
 use native.Mathlib.Numerals.{add-one}
 use mathlib.Core.Path.{◌≡◌, refl, sym, ap, ◌∙◌}
 use mathlib.Core.Bool.{Bool, true, false, cond}
-use mathlib.Core.Option
-use mathlib.Core.Option.{Option, none, some}
 use mathlib.Core.List.{List}
 use borrow.Author.Tests.{lt-ltb, le-ltb}
 use lib.ListN.{length, get_or, take}
@@ -37,22 +36,22 @@ first_through p q n i j s hidden f g =
     go k a b (no l) = g.none k (omega arith) b
 
 -- the first from a place on is the one with as many before it as before that place
-first_place : (p : ℕ → Bool) (n k i s : ℕ) (o : Option ℕ) → Answers p n k o → count p i ≡ k → First p n i s → s ≡ Option.get_or o n
+first_place : (p : ℕ → Bool) (n k i s : ℕ) (o : Option ℕ) → Answers p n k o → count p i ≡ k → First p n i s → s ≡ unwrap_or o n
 first_place p n k i s o a e f = go (dec_lt s n)
   where
     still : count p s ≡ k
     still = count_still p i s f.from f.none ∙ e
 
-    go : Dec (s < n) → s ≡ Option.get_or o n
-    go (yes l) = sym (ap (λ (o : Option ℕ). Option.get_or o n) (a.whole s (record { within = l; passes = f.here l; rank = still })))
+    go : Dec (s < n) → s ≡ unwrap_or o n
+    go (yes l) = sym (ap (λ (o : Option ℕ). unwrap_or o n) (a.whole s (record { within = l; passes = f.here l; rank = still })))
     go (no l) =
         let z : s ≡ n = omega (arith, f.upto) in
         let all : count p n ≡ k = rw z at still in
-        z ∙ sym (ap (λ (o : Option ℕ). Option.get_or o n) (no_more p n k o a (omega arith)))
+        z ∙ sym (ap (λ (o : Option ℕ). unwrap_or o n) (no_more p n k o a (omega arith)))
 
 -- none is left behind where the one before was none
-none_behind : (p : ℕ → Bool) (n k : ℕ) (o r : Option ℕ) → Answers p n k o → Answers p n (suc k) r → o ≡ none → n ≡ Option.get_or r n
-none_behind p n k o r a b e = sym (ap (λ (o : Option ℕ). Option.get_or o n) (no_more p n (suc k) r b (omega (arith, none_left p n k o a e))))
+none_behind : (p : ℕ → Bool) (n k : ℕ) (o r : Option ℕ) → Answers p n k o → Answers p n (suc k) r → o ≡ None → n ≡ unwrap_or r n
+none_behind p n k o r a b e = sym (ap (λ (o : Option ℕ). unwrap_or o n) (no_more p n (suc k) r b (omega (arith, none_left p n k o a e))))
 
 -- ---- the entries of a store
 
@@ -83,7 +82,7 @@ module _ (l : List ℕ) (n : ℕ) (key : Key) where
 
   -- behind so many receives, the send is the one with so many before it
   under_at : (i k : ℕ) → i ≤ n → count received i ≡ k
-      → send_under_at (entries_in l n) (key_of key) i ≡ Option.get_or (send_place (key_of key) k (entries_in l n)) n
+      → send_under_at (entries_in l n) (key_of key) i ≡ unwrap_or (send_place (key_of key) k (entries_in l n)) n
   unfolding send_under_at
   under_at i k h e = rw (length_entries l n, ranked i h, e)
 
@@ -136,7 +135,7 @@ module _ (l : List ℕ) (sends link : List ℕ) (key : Key) (head from : ℕ) (h
         finds = λ s g. first_place (sent l n key) n k i s _ (answers l n key k) c (first_sent i start s f g) ∙ sym (under_at l n key from k upto r);
       }
 
-  starts_none : (k : ℕ) → count (received l n key) from ≡ suc k → send_place (key_of key) k es ≡ none → Starts n
+  starts_none : (k : ℕ) → count (received l n key) from ≡ suc k → send_place (key_of key) k es ≡ None → Starts n
   starts_none k r e =
       record {
         high = omega arith;
@@ -165,15 +164,15 @@ module _ (l : List ℕ) (sends link : List ℕ) (key : Key) (head from : ℕ) (h
         count_still (received l n key) (suc q) from f.upto (λ k a b. sym (received_is l n key k (omega (arith, upto))) ∙ f.none k a b)
         ∙ count_yes (received l n key) q (sym (received_is l n key q low) ∙ f.here q refl)
 
-    its_place : get_or sends q 0 ≡ Option.get_or (send_place (key_of key) (count (received l n key) q) es) n
+    its_place : get_or sends q 0 ≡ unwrap_or (send_place (key_of key) (count (received l n key) q) es) n
     its_place =
         h.placed q f.upto
-        ∙ ap (λ (o : Option ℕ). Option.get_or o n) (send_side l n q low ∙ receive_send l es key q (f.here q refl) ∙ ap (λ (k : ℕ). send_place (key_of key) k es) (ranked l n key q (omega (arith, low))))
+        ∙ ap (λ (o : Option ℕ). unwrap_or o n) (send_side l n q low ∙ receive_send l es key q (f.here q refl) ∙ ap (λ (k : ℕ). send_place (key_of key) k es) (ranked l n key q (omega (arith, low))))
 
     starts_behind : (o : Option ℕ) → send_place (key_of key) (count (received l n key) q) es ≡ o
-        → Starts (cond (ltb (Option.get_or o n) n) (get_or link (Option.get_or o n) 0) n)
-    starts_behind none e = rw (le-ltb n n (omega arith)) (starts_none (count (received l n key) q) rank_behind e)
-    starts_behind (some j) e =
+        → Starts (cond (ltb (unwrap_or o n) n) (get_or link (unwrap_or o n) 0) n)
+    starts_behind None e = rw (le-ltb n n (omega arith)) (starts_none (count (received l n key) q) rank_behind e)
+    starts_behind (Some j) e =
         let a = (answers l n key (count (received l n key) q)).sound j e in
         let c : count (sent l n key) (j + 1) ≡ suc (count (received l n key) q) = rw add-one (count_yes (sent l n key) j a.passes ∙ ap suc a.rank) in
         let f : First (send_in l (bucket_of key)) n (j + 1) (get_or link j 0) =

@@ -1,12 +1,12 @@
 -- What finding the sends comes to, from what the passes do; and that it comes to one thing only.
+use Rattle.std.specs.Prelude.{unwrap_or}
 use Prim.Native.Nat.{ℕ, ◌≤◌, ◌<◌}
 use native.Mathlib.Omega.{arith}
 use mathlib.Core.Path.{◌≡◌, sym, ap, ◌∙◌}
 use mathlib.Core.Bool.{true, false}
-use mathlib.Core.List.{List, ◌++◌, append-nil}
-use mathlib.Core.Option.{get_or}
+use mathlib.Core.List.{List}
 use borrow.Author.Tests.{eq-eqb, ne_eqb, lt-ltb, le-ltb}
-use lib.ListN.{length, drop, replicate, drop_of_length-le}
+use lib.ListN.{length, replicate}
 use lib.Seq.{ext_get_or}
 use Rattle.paper.specs.Clock.{listed}
 use Rattle.paper.specs.Matching.{send_of}
@@ -17,18 +17,14 @@ use Rattle.chains.specs.Places.{places_of, Places, places_fit, found}
 use Rattle.chains.specs.Chains.{Placed, Placing}
 use Rattle.chains.proofs.Places.{length_places}
 
--- a slice is filled to its end
-pub all_filled : (l d : List ℕ) (i v : ℕ) → l ≡ replicate i v ++ drop i d → length d ≡ i → l ≡ replicate (length d) v
-all_filled l d i v e h = rw (h, e, drop_of_length-le d {i = i} (omega arith)) (append-nil (replicate i v))
-
 -- ---- the places
 
 all_placed : (l : List ℕ) (n : ℕ) (sends : List ℕ) → length sends ≡ n → Placed l n sends n → sends ≡ places_of (entries_in l n)
 unfolding places_of
 all_placed l n sends size h =
     rw (length_entries l n)
-    (ext_get_or 0 sends (listed n (λ i. get_or (send_of (entries_in l n) i) n)) (size ∙ sym (length_listed n (λ i. get_or (send_of (entries_in l n) i) n)))
-    (λ i m. h i (omega arith) ∙ sym (listed_at n (λ i. get_or (send_of (entries_in l n) i) n) i 0 (omega arith))))
+    (ext_get_or 0 sends (listed n (λ i. unwrap_or (send_of (entries_in l n) i) n)) (size ∙ sym (length_listed n (λ i. unwrap_or (send_of (entries_in l n) i) n)))
+    (λ i m. h i (omega arith) ∙ sym (listed_at n (λ i. unwrap_or (send_of (entries_in l n) i) n) i 0 (omega arith))))
 
 -- the places know how many they are
 module _ (l : List ℕ) (n : ℕ) (sends : List ℕ) (e : sends ≡ places_of (entries_in l n)) where

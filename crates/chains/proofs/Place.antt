@@ -1,11 +1,10 @@
 -- The pass from the first record to the last that places the sends: one turn.
+use Rattle.std.specs.Prelude.{Option, None, unwrap_or}
 use Prim.Native.Nat.{ℕ, ◌+◌, ◌<◌}
 use native.Mathlib.Omega.{arith}
 use native.Mathlib.Decide.{dec_lt}
 use mathlib.Core.Path.{◌≡◌, refl, sym, ap, ◌∙◌}
 use mathlib.Core.Bool.{Bool, true, false, true≢false}
-use mathlib.Core.Option
-use mathlib.Core.Option.{Option, none}
 use mathlib.Core.List.{List}
 use borrow.Author.Tests.{eqb-true, eq-eqb}
 use lib.Dec.{eqb}
@@ -53,11 +52,11 @@ after_set d P xs i v l below at j h = go (dec_lt j i)
     go (no g) = let z : j ≡ i = omega arith in rw (z, get_or-set_same xs i v d l) at
 
 module _ (l : List ℕ) (n : ℕ) (sends link heads seen : List ℕ) (i : ℕ) (m : i < n) (h : Placing l n sends link heads seen i) where
-  placed_more : (v : ℕ) → v ≡ Option.get_or (send_of (entries_in l n) i) n → Placed l n (set sends i v) (i + 1)
-  placed_more v e = after_set 0 (λ j x. x ≡ Option.get_or (send_of (entries_in l n) j) n) sends i v (omega (arith, h.size)) h.placed e
+  placed_more : (v : ℕ) → v ≡ unwrap_or (send_of (entries_in l n) i) n → Placed l n (set sends i v) (i + 1)
+  placed_more v e = after_set 0 (λ j x. x ≡ unwrap_or (send_of (entries_in l n) j) n) sends i v (omega (arith, h.size)) h.placed e
 
   -- a record that is no receive
-  place_none : send_of (entries_in l n) i ≡ none → ((b : ℕ) → receive_in l b i ≡ false)
+  place_none : send_of (entries_in l n) i ≡ None → ((b : ℕ) → receive_in l b i ≡ false)
       → Placing l n (set sends i n) link heads seen (i + 1)
   place_none e out =
       record {
@@ -66,7 +65,7 @@ module _ (l : List ℕ) (n : ℕ) (sends link heads seen : List ℕ) (i : ℕ) (
         buckets = h.buckets;
         last = λ b g. last_later (receive_in l b) i (get_or seen b 0) (out b) (h.last b g);
         backed = λ j b a f. older j b a f (dec_lt j i);
-        placed = placed_more n (sym (ap (λ (o : Option ℕ). Option.get_or o n) e));
+        placed = placed_more n (sym (ap (λ (o : Option ℕ). unwrap_or o n) e));
       }
     where
       older : (j b : ℕ) → j < i + 1 → receive_in l b j ≡ true → Dec (j < i) → Last (receive_in l b) j (get_or link j 0)
@@ -107,12 +106,12 @@ module _ (l : List ℕ) (n : ℕ) (sends link heads seen : List ℕ) (i : ℕ) (
         }
 
     -- what the search finds is the send of the receive
-    found_send : (s : ℕ) → s ≡ send_under_at (entries_in l n) (key_of k) (get_or seen b 0) → s ≡ Option.get_or (send_of (entries_in l n) i) n
+    found_send : (s : ℕ) → s ≡ send_under_at (entries_in l n) (key_of k) (get_or seen b 0) → s ≡ unwrap_or (send_of (entries_in l n) i) n
     unfolding send_under_at
     found_send s f =
         f
         ∙ sym (same_behind l n k (get_or seen b 0) i before.upto (omega arith) (λ j a c. no_receive_in l k j (before.none j a c)))
-        ∙ rw (length_entries l n) (sym (ap (λ (o : Option ℕ). Option.get_or o n) (send_side l n i m ∙ ap (send_by (entries_in l n) i) e)))
+        ∙ rw (length_entries l n) (sym (ap (λ (o : Option ℕ). unwrap_or o n) (send_side l n i m ∙ ap (send_by (entries_in l n) i) e)))
 
     linked_still : Linked l n (set link i (get_or seen b 0)) 0
     linked_still j c a g f =
@@ -157,11 +156,20 @@ module _ (l : List ℕ) (n : ℕ) (sends link heads seen : List ℕ) (i : ℕ) (
     by_side : (x : Side) → side ≡ x → send_of es i ≡ send_by es i x
     by_side x f = send_side l n i m ∙ ap (send_by es i) (sym e ∙ f)
 
-    pub place_neither : side ≡ Neither → Placing l n (set sends i n) link heads seen (i + 1)
+    place_neither : side ≡ Neither → Placing l n (set sends i n) link heads seen (i + 1)
     place_neither f = place_none (by_side Neither f) (λ b. ap (receives_in b) (sym e ∙ f))
 
-    pub place_send : {k : Key} → side ≡ Sends k → Placing l n (set sends i n) link heads seen (i + 1)
+    place_send : {k : Key} → side ≡ Sends k → Placing l n (set sends i n) link heads seen (i + 1)
     place_send {k} f = place_none (by_side (Sends k) f) (λ b. ap (receives_in b) (sym e ∙ f))
+
+    -- no receive
+    pub place_other : ((k : Key) → side ≡ Receives k → ⊥) → Placing l n (set sends i n) link heads seen (i + 1)
+    place_other none = go side refl
+      where
+        go : (x : Side) → side ≡ x → Placing l n (set sends i n) link heads seen (i + 1)
+        go Neither f = place_neither f
+        go (Sends k) f = place_send f
+        go (Receives k) f = absurd (none k f)
 
     -- a receive under a key of bucket b, behind which the search found s
     pub place_found : {k : Key} → side ≡ Receives k → {b : ℕ} → b ≡ bucket_of k

@@ -1,7 +1,6 @@
 -- The chains: of each bucket its sends in file order, and its receives back from the last. Throughout, l is the store, n the
 -- number of its records, and a place that is n is no place.
-use Rattle.std.specs.Prelude.{ℕ, zero, suc, ◌+◌, ◌≤◌, ◌<◌, ◌≡◌, Bool, true, false, cond, List, length, get_or, take, ltb}
-use Rattle.std.proofs.Math.Option
+use Rattle.std.specs.Prelude.{ℕ, zero, suc, ◌+◌, ◌≤◌, ◌<◌, ◌≡◌, Bool, true, false, cond, List, length, get_or, take, ltb, Option, Some, None, unwrap_or}
 use Rattle.paper.specs.Matching.{Key, count_if, is_receive_of, send_place, send_of}
 use Rattle.paper.specs.declared.Entry.{Entry}
 use Rattle.store.specs.Layout.{too_many, entries_in}
@@ -53,7 +52,7 @@ Backed l link i = (j b : ℕ) → j < i → receive_in l b j ≡ true → Last (
 
 -- the entries before place i have their sends
 abbrev pub Placed : List ℕ → ℕ → List ℕ → ℕ → Type 0
-Placed l n sends i = (j : ℕ) → j < i → get_or sends j 0 ≡ Option.get_or (send_of (entries_in l n) j) n
+Placed l n sends i = (j : ℕ) → j < i → get_or sends j 0 ≡ unwrap_or (send_of (entries_in l n) j) n
 
 -- all that holds where the entries before place i are done
 pub record Placing (l : List ℕ) (n : ℕ) (sends link heads seen : List ℕ) (i : ℕ) : Type 0 where
@@ -78,6 +77,11 @@ pub record Backward (l : List ℕ) (link : List ℕ) (b from : ℕ) : Type 0 whe
   pub upto : from ≤ length link
   pub here : (k : ℕ) → from ≡ suc k → receive_in l b k ≡ true
 
+-- a place and one, and 0 for no place
+abbrev pub behind : Option ℕ → ℕ
+behind None = 0
+behind (Some k) = suc k
+
 -- where the search for a send starts: at the head of the bucket, or behind the send of the receive before
 abbrev pub start_from : List ℕ → List ℕ → ℕ → ℕ → ℕ
 start_from sends link head zero = head
@@ -94,4 +98,4 @@ pub record Ready (l : List ℕ) (sends link : List ℕ) (b head from : ℕ) : Ty
 
 -- the place of the send that a receive under the key belongs to, if it stands at place i
 unfoldable pub send_under_at : List Entry → Key → ℕ → ℕ
-send_under_at es key i = Option.get_or (send_place key (count_if (is_receive_of key) (take i es)) es) (length es)
+send_under_at es key i = unwrap_or (send_place key (count_if (is_receive_of key) (take i es)) es) (length es)

@@ -1,6 +1,5 @@
 -- The places of the sends, and what finding them leaves in the two lent slices.
-use Rattle.std.specs.Prelude.{ℕ, List, Bool, cond, ◌&&◌, length, replicate, eqb, ltb}
-use Rattle.std.proofs.Math.Option.{get_or}
+use Rattle.std.specs.Prelude.{ℕ, List, Bool, cond, ◌&&◌, length, replicate, eqb, ltb, unwrap_or}
 use Rattle.paper.specs.Clock.{listed}
 use Rattle.paper.specs.Matching.{send_of}
 use Rattle.paper.specs.declared.Entry.{Entry}
@@ -8,7 +7,7 @@ use Rattle.store.specs.Layout.{too_many, entries_in}
 
 -- of each entry the place of its send, and the number of entries where there is none
 unfoldable pub places_of : List Entry → List ℕ
-places_of es = listed (length es) (λ i. get_or (send_of es i) (length es))
+places_of es = listed (length es) (λ i. unwrap_or (send_of es i) (length es))
 
 pub record Places : Type 0 where
   pub sends : List ℕ

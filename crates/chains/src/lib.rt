@@ -7,7 +7,7 @@ ghost use Rattle.std.specs.Prelude.{◌≡◌, ◌+◌, ◌<◌, ◌≤◌, leng
 ghost use Rattle.store.specs.Layout.{too_many, entries_in};
 ghost use Rattle.side.specs.Sides.{key_of, bucket_of, send_under, receive_under};
 ghost use Rattle.chains.specs.Places.{places, found};
-ghost use Rattle.chains.specs.Chains.{Filled, First, Last, Chained, Placing, Forward, Backward, Ready, start_from, send_under_at};
+ghost use Rattle.chains.specs.Chains.{Filled, First, Last, Chained, Placing, Forward, Backward, Ready, behind, start_from, send_under_at};
 
 use side::{Key, Side};
 
@@ -28,35 +28,36 @@ fn next_send(store: &[u32], link: &[u32], at: usize, key: Key) -> usize
     s
 }
 
-// The last receive under the key before place `from`, as its place and one, along the chain of its bucket.
-fn prior_receive(store: &[u32], link: &[u32], from: u32, key: Key) -> usize
+// The last receive under the key before place `from`, along the chain of its bucket.
+fn prior_receive(store: &[u32], link: &[u32], from: u32, key: Key) -> Option<usize>
     requires { Backward store.now link.now (bucket_of key) from }
-    ensures { Last (receive_under store.now key) from result }
+    ensures { Last (receive_under store.now key) from (behind result) }
 {
     let mut p = from as usize;
     while 0 < p {
         let at = p - 1;
         if side::receive_under(store, at, key) {
-            return p;
+            return Some(at);
         }
         p = link[at] as usize;
     }
-    0
+    None
 }
 
 // Where the search starts: at the head of the bucket, or behind the send of the receive before.
-fn start_from(sends: &[u32], link: &[u32], head: u32, prior: usize) -> usize
-    requires { prior ≤ length sends.now }
-    ensures { result ≡ start_from sends.now link.now head prior }
+fn start_from(sends: &[u32], link: &[u32], head: u32, prior: Option<usize>) -> usize
+    requires { behind prior ≤ length sends.now }
+    ensures { result ≡ start_from sends.now link.now head (behind prior) }
 {
-    if prior == 0 {
+    let Some(at) = prior else {
         return head as usize;
-    }
-    let s = sends[prior - 1] as usize;
+    };
+    let s = sends[at] as usize;
     if s < link.len() {
-        return link[s] as usize;
+        link[s] as usize
+    } else {
+        link.len()
     }
-    link.len()
 }
 
 // The send of a receive under the key that stands behind the receives before place `from`.
@@ -77,15 +78,10 @@ fn chain_one(store: &[u32], link: &mut [u32], heads: &mut [u32], i: usize)
     requires { (i < length link.old) × Chained store.now (length link.old) link.old heads.old (i + 1) }
     ensures { Chained store.now (length link.old) link.new heads.new i }
 {
-    let side = side::side_at(store, i);
-    match side {
-        Side::Neither => {}
-        Side::Sends(key) => {
-            let b = side::bucket_of(key);
-            link[i] = heads[b];
-            heads[b] = i as u32;
-        }
-        Side::Receives(_) => {}
+    if let Side::Sends(key) = side::side_at(store, i) {
+        let b = side::bucket_of(key);
+        link[i] = heads[b];
+        heads[b] = i as u32;
     }
 }
 
@@ -94,9 +90,7 @@ fn chain_sends(store: &[u32], link: &mut [u32], heads: &mut [u32])
     requires { (length link.old < too_many) × Filled heads.old (length link.old) }
     ensures { Chained store.now (length link.old) link.new heads.new 0 }
 {
-    let mut i = link.len();
-    while 0 < i {
-        i -= 1;
+    for i in (0..link.len()).rev() {
         chain_one(store, link, heads, i);
     }
 }
@@ -113,24 +107,16 @@ fn place_one(
     requires { (i < length sends.old) × Placing store.now (length sends.old) sends.old link.old heads.now seen.old i }
     ensures { Placing store.now (length sends.old) sends.new link.new heads.now seen.new (i + 1) }
 {
-    let side = side::side_at(store, i);
-    match side {
-        Side::Neither => {
-            sends[i] = sends.len() as u32;
-        }
-        Side::Sends(_) => {
-            sends[i] = sends.len() as u32;
-        }
-        Side::Receives(key) => {
-            let b = side::bucket_of(key);
-            let from = seen[b];
-            let s = send_behind(store, sends, link, heads[b], from, key);
-            let behind = (i + 1) as u32;
-            sends[i] = s;
-            link[i] = from;
-            seen[b] = behind;
-        }
-    }
+    let Side::Receives(key) = side::side_at(store, i) else {
+        sends[i] = sends.len() as u32;
+        return;
+    };
+    let b = side::bucket_of(key);
+    let from = seen[b];
+    let behind = (i + 1) as u32;
+    sends[i] = send_behind(store, sends, link, heads[b], from, key);
+    link[i] = from;
+    seen[b] = behind;
 }
 
 // Places the sends, from the first record to the last.
@@ -138,10 +124,8 @@ fn place_sends(store: &[u32], sends: &mut [u32], link: &mut [u32], heads: &[u32]
     requires { Placing store.now (length sends.old) sends.old link.old heads.now seen.old 0 }
     ensures { Placing store.now (length sends.old) sends.new link.new heads.now seen.new (length sends.old) }
 {
-    let mut i: usize = 0;
-    while i < sends.len() {
+    for i in 0..sends.len() {
         place_one(store, sends, link, heads, seen, i);
-        i += 1;
     }
 }
 
@@ -155,11 +139,7 @@ fn each_bucket(v: u32) -> [u32; 1024]
 fn clear(link: &mut [u32])
     ensures { link.new ≡ replicate (length link.old) 0 }
 {
-    let mut i: usize = 0;
-    while i < link.len() {
-        link[i] = 0;
-        i += 1;
-    }
+    link.fill(0);
 }
 
 // Puts the place of each record's send, and clears the links, which are room for the work: as many as the places. Where they are
@@ -167,10 +147,7 @@ fn clear(link: &mut [u32])
 pub fn find_sends(store: &[u32], sends: &mut [u32], link: &mut [u32])
     ensures { places sends.new link.new ≡ found store.now sends.old link.old }
 {
-    if link.len() != sends.len() {
-        return;
-    }
-    if store::TOO_MANY <= sends.len() {
+    if link.len() != sends.len() || store::TOO_MANY <= sends.len() {
         return;
     }
     let mut heads = each_bucket(sends.len() as u32);

@@ -1,12 +1,8 @@
 -- What is heard of a choice is one thing.
-use mathlib.Core.Path.{◌≡◌, refl}
-use Rattle.clearance.specs.declared.Heard.{Heard}
-use Rattle.clearance.specs.declared.Heard.TheVariants.{Of, Nothing}
-use Rattle.clearance.specs.Clearance.{heard_of}
+use Rattle.std.specs.Prelude.{ℕ, Option, ◌≡◌}
+use mathlib.Core.Path.{sym, ◌∙◌}
+use Rattle.paper.specs.Answer.{choice_of}
+use Rattle.paper.specs.declared.Choice.{Choice}
 
-pub one_heard : (r q : Heard) → heard_of r ≡ heard_of q → r ≡ q
-unfolding heard_of
-one_heard (Of a) (Of b) e = cc
-one_heard (Of a) Nothing e = cc
-one_heard Nothing (Of b) e = cc
-one_heard Nothing Nothing e = refl
+pub one_heard : (n : ℕ) (r q : Option Choice) → r ≡ choice_of n → q ≡ choice_of n → r ≡ q
+one_heard n r q e f = e ∙ sym f

@@ -1,3 +1,2 @@
 -- The laws of the answer.
-pub mod Clearing
 pub mod Outcomes

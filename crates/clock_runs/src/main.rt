@@ -4,7 +4,7 @@
 
 ghost use Rattle.std.specs.Prelude.{◌<◌, ◌≤◌, length};
 
-use clock::Settled;
+use engine::{Unsettled, Waits};
 
 const STDOUT: i32 = 1;
 
@@ -19,75 +19,58 @@ fn word(text: &[u8]) {
 // No time of these runs is negative.
 fn number(t: i64) {
     word(b" ");
-    if t < 0 {
-        word(b"below 0");
-        return;
-    }
-    io::print_decimal(STDOUT, t as u64);
-}
-
-fn times_from(times: &[i64], first: usize) {
-    let mut i = first;
-    while i < times.len() {
-        number(times[i]);
-        i += 1;
+    match u64::try_from(t) {
+        Ok(n) => {
+            io::print_decimal(STDOUT, n);
+        }
+        Err(_) => word(b"below 0"),
     }
 }
 
 fn times_of(times: &[i64]) {
-    if times.len() > 8 {
-        times_from(times, times.len() - 1);
-        return;
+    let first = if times.len() > 8 { times.len() - 1 } else { 0 };
+    for time in &times[first..] {
+        number(*time);
     }
-    times_from(times, 0);
 }
 
-fn show(answer: Settled, times: &[i64]) {
+fn show(answer: Result<usize, Unsettled>, times: &[i64]) {
     match answer {
-        Settled::Rounds(k) => {
+        Ok(k) => {
             word(b"rounds ");
             io::print_decimal(STDOUT, k as u64);
             word(b":");
             times_of(times);
             word(b"\n");
         },
-        Settled::Impossible => word(b"impossible\n"),
-        Settled::Misfit => word(b"misfit\n"),
+        Err(Unsettled::Impossible) => word(b"impossible\n"),
+        Err(Unsettled::Misfit) => word(b"misfit\n"),
     }
 }
 
-fn answered(
-    before: &[u32],
-    gap: &[u64],
-    send: &[u32],
-    latency: &[u32],
-    times: &mut [i64],
-    spare: &mut [i64],
-) {
-    let answer = clock::settle(before, gap, send, latency, times, spare);
-    show(answer, times);
-}
-
-fn keeping(
-    name: &[u8],
-    times: &mut [i64],
-    before: &[u32],
-    gap: &[u64],
-    send: &[u32],
-    latency: &[u32],
-) {
+fn keeping(name: &[u8], times: &mut [i64], waits: Waits) {
     let mut spare = [0i64; SIZE];
     let n = times.len();
     if n > SIZE {
         return;
     }
     word(name);
-    answered(before, gap, send, latency, times, &mut spare[0..n]);
+    let answer = clock::settle(waits, times, &mut spare[0..n]);
+    show(answer, times);
 }
 
 // No gaps are lent, and none is kept.
 fn run(name: &[u8], times: &mut [i64], before: &[u32], send: &[u32], latency: &[u32]) {
-    keeping(name, times, before, &[], send, latency);
+    keeping(
+        name,
+        times,
+        Waits {
+            before,
+            gap: &[],
+            send,
+            latency,
+        },
+    );
 }
 
 // Trace A, all latencies the same, and its first three lines.
@@ -106,10 +89,12 @@ fn kept_a(name: &[u8], first: u64, second: u64, third: u64) {
     keeping(
         name,
         &mut [10, 12, 9, 11, 13],
-        &[NONE, 0, NONE, 2, 1],
-        &[0, first, 0, second, third],
-        &[NONE, NONE, 0, NONE, 3],
-        &[5; 5],
+        Waits {
+            before: &[NONE, 0, NONE, 2, 1],
+            gap: &[0, first, 0, second, third],
+            send: &[NONE, NONE, 0, NONE, 3],
+            latency: &[5; 5],
+        },
     );
 }
 
@@ -149,10 +134,12 @@ fn kept_b(name: &[u8], gap: u64) {
     keeping(
         name,
         &mut [1, 2, 3, 4],
-        &[NONE, 0, NONE, 2],
-        &[0, gap, 0, gap],
-        &[3, NONE, 1, NONE],
-        &[0; 4],
+        Waits {
+            before: &[NONE, 0, NONE, 2],
+            gap: &[0, gap, 0, gap],
+            send: &[3, NONE, 1, NONE],
+            latency: &[0; 4],
+        },
     );
 }
 
@@ -161,10 +148,8 @@ fn links(to: &mut [u32], first: usize)
     requires first_nonzero { 0 < first }
     requires to_len_bound { length to.old ≤ 2048 }
 {
-    let mut i = first;
-    while i < to.len() {
+    for i in (first..to.len()).step_by(2) {
         to[i] = (i - 1) as u32;
-        i += 2;
     }
 }
 
@@ -216,10 +201,12 @@ fn too_few(name: &[u8]) {
     keeping(
         name,
         &mut [1, 2, 3, 4],
-        &[NONE, 0, NONE, 2],
-        &[0, 0, 0],
-        &[3, NONE, 1, NONE],
-        &[0; 4],
+        Waits {
+            before: &[NONE, 0, NONE, 2],
+            gap: &[0, 0, 0],
+            send: &[3, NONE, 1, NONE],
+            latency: &[0; 4],
+        },
     );
 }
 
@@ -228,10 +215,12 @@ fn ends(name: &[u8], gap: u64) {
     keeping(
         name,
         &mut [-999_999_999_999_999, 999_999_999_999_999],
-        &[NONE, 0],
-        &[0, gap],
-        &[NONE, NONE],
-        &[0, 0],
+        Waits {
+            before: &[NONE, 0],
+            gap: &[0, gap],
+            send: &[NONE, NONE],
+            latency: &[0, 0],
+        },
     );
 }
 

@@ -13,11 +13,9 @@ pub fn held(store: &[u32], listed: usize) -> [bool; 64]
     ensures { Held (entries_in store.now listed) result }
 {
     let mut seen = [false; 64];
-    let mut i: usize = 0;
-    while i < listed {
+    for i in 0..listed {
         let p = store::processor_at(store, i);
         seen[p] = true;
-        i += 1;
     }
     seen
 }
@@ -26,13 +24,11 @@ pub fn held(store: &[u32], listed: usize) -> [bool; 64]
 pub fn shares(store: &[u32], listed: usize, other: [bool; 64]) -> bool
     ensures { (es : List Entry) → Held es other → result ≡ share_one es (entries_in store.now listed) }
 {
-    let mut i: usize = 0;
-    while i < listed {
+    for i in 0..listed {
         let p = store::processor_at(store, i);
         if other[p] {
             return true;
         }
-        i += 1;
     }
     false
 }

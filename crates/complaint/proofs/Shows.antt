@@ -1,4 +1,5 @@
 -- A complaint put into a room: a word made visible byte by byte, as much of it as is shown, and the lines.
+use Rattle.std.specs.Prelude.{Result}
 use Prim.Native.Nat.{ℕ, zero, suc, ◌+◌, ◌-◌, ◌≤◌, ◌<◌, min}
 use mathlib.Core.Path.{◌≡◌, refl, sym, ap}
 use mathlib.Core.List.{List, [], ◌∷◌, ◌++◌}
@@ -6,7 +7,6 @@ use native.Mathlib.Omega.{arith}
 use native.Mathlib.Numerals.{add-one}
 use lib.ListN.{length, take, drop, get_or, set, length-append, length-take, length-drop, take-append-drop}
 use lib.Seq.{take-nil, take-suc, take_all, set_split}
-use borrow.Author.Tests.{le-leb, lt-leb}
 use Rattle.report.specs.Put.{Put}
 use Rattle.report.proofs.Puts.{then, counted}
 use Rattle.paper.specs.Text.{bytes_of}
@@ -18,23 +18,8 @@ use Rattle.complaint.specs.Parts.{ShownPart, place_of}
 use Rattle.named.specs.declared.Span.{Span}
 use Rattle.named.specs.declared.Name.{Name}
 use Rattle.named.specs.declared.Name.TheVariants.{Choice, Trace, Table, Levels, Statistics, Share, Out}
-use Rattle.flags.specs.declared.Plan.{Plan}
-
--- ---- a byte
-
-module _ (b : ℕ) where
-  pub too_low : b < 33 → 63 ≡ visible b
-  unfolding visible
-  too_low h = rw (lt-leb 33 b h)
-
-  module _ (high : 33 ≤ b) where
-    pub too_high : 126 < b → 63 ≡ visible b
-    unfolding visible
-    too_high h = rw (le-leb 33 b high, lt-leb b 126 h)
-
-    pub plain : b ≤ 126 → b ≡ visible b
-    unfolding visible
-    plain h = rw (le-leb 33 b high, le-leb b 126 h)
+use Rattle.flags.specs.declared.Lack.{Lack}
+use Rattle.flags.specs.declared.Wishes.{Wishes}
 
 -- ---- a word, byte by byte
 
@@ -65,8 +50,8 @@ module _ {room : List ℕ} (word : List ℕ) {now : List ℕ} (at i : ℕ) (fits
       let there : at + (i + 1) ≡ at + i + 1 = omega arith in
       rw (more, there) (then put one)
 
-  pub visible_all : length word ≤ i → Put room at (all_visible word) (at + i) now
-  visible_all h = rw (take_all i word h) at put
+  pub visible_all : i ≡ length word → Put room at (all_visible word) (at + length word) now
+  visible_all e = rw (take_all i word (omega arith), e) at put
 
 -- ---- as much of a word as is shown
 
@@ -146,11 +131,11 @@ name_shown Statistics = refl
 name_shown Share = refl
 name_shown Out = refl
 
-module _ {line : List ℕ} {plan : Plan} {room : List ℕ} {end : ℕ} {after : List ℕ} where
+module _ {line : List ℕ} {plan : Result Wishes Lack} {room : List ℕ} {end : ℕ} {after : List ℕ} where
   pub complains : {text : List ℕ} → text ≡ complaint_of (plan_in line plan) → Put room 0 text end after → Complained line plan room end after
   complains e p = record { put = rw e at p; counts = counted p }
 
-pub says_nothing : {line : List ℕ} {plan : Plan} (room : List ℕ) → [] ≡ complaint_of (plan_in line plan) → Complained line plan room 0 room
+pub says_nothing : {line : List ℕ} {plan : Result Wishes Lack} (room : List ℕ) → [] ≡ complaint_of (plan_in line plan) → Complained line plan room 0 room
 says_nothing room e =
     let p : Put room 0 [] 0 room = record { ends = refl; fits = omega arith; holds = refl } in
     complains e p

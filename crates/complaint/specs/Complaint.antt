@@ -1,12 +1,13 @@
 -- The line that names what is bad or missing. Whatever the caller typed, it is one line: an argument cannot fake a report.
-use Rattle.std.specs.Prelude.{ℕ, cond, ◌&&◌, List, [], ◌∷◌, ◌++◌, take, leb}
+use Rattle.std.specs.Prelude.{ℕ, cond, ◌&&◌, List, [], ◌∷◌, ◌++◌, take, leb, Result}
 use Rattle.io.specs.Counts.{IsPrefixLen}
 use Rattle.paper.specs.Text.{bytes_of}
 use Rattle.report.specs.Put.{Put}
 use Rattle.named.specs.Values.{written}
 use Rattle.flags.specs.Plan.{Meant, bad, missing, judge}
 use Rattle.flags.specs.Spans.{plan_in}
-use Rattle.flags.specs.declared.Plan.{Plan}
+use Rattle.flags.specs.declared.Lack.{Lack}
+use Rattle.flags.specs.declared.Wishes.{Wishes}
 
 -- a byte outside 33 to 126 is shown as `?`, which is 63
 unfoldable pub visible : ℕ → ℕ
@@ -30,6 +31,6 @@ complaint_of (judge request) = []
 
 -- ---- the statement of `complaint`: the line at the room's start, the rest as it was. That its length counts within the room follows
 -- from this, and is said for those who lend that part.
-pub record Complained (line : List ℕ) (plan : Plan) (room : List ℕ) (length : ℕ) (after : List ℕ) : Type 0 where
+pub record Complained (line : List ℕ) (plan : Result Wishes Lack) (room : List ℕ) (length : ℕ) (after : List ℕ) : Type 0 where
   pub put : Put room 0 (complaint_of (plan_in line plan)) length after
   pub counts : IsPrefixLen length after

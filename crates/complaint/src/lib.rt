@@ -3,17 +3,27 @@
 
 mod put;
 
+ghost use Rattle.std.specs.Prelude.{Err};
 ghost use Rattle.complaint.specs.Complaint.{Complained};
 
-use flags::Plan;
+use flags::{Lack, Wishes};
 
 // The line that names what is bad or missing, at the room's start, and its length: 0 where nothing is.
-pub fn complaint(line: &[u8], plan: Plan, room: &mut [u8; 256]) -> usize
+pub fn complaint(line: &[u8], plan: Result<Wishes, Lack>, room: &mut [u8; 256]) -> usize
     ensures { Complained line.now plan room.old result room.new }
 {
     match plan {
-        Plan::Bad(word) => put::put_line(room, b"bad argument ", line, word),
-        Plan::Missing(name) => {
+        Err(lack) => lack_named(line, lack, room),
+        Ok(_) => 0,
+    }
+}
+
+fn lack_named(line: &[u8], lack: Lack, room: &mut [u8; 256]) -> usize
+    ensures { Complained line.now (Err lack) room.old result room.new }
+{
+    match lack {
+        Lack::Bad(word) => put::put_line(room, b"bad argument ", line, word),
+        Lack::Missing(name) => {
             // all seven names, of which one is shown
             let place = put::place_of(name);
             put::put_line(
@@ -23,6 +33,5 @@ pub fn complaint(line: &[u8], plan: Plan, room: &mut [u8; 256]) -> usize
                 place,
             )
         }
-        Plan::Judge(_) => 0,
     }
 }

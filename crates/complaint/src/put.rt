@@ -1,5 +1,5 @@
 // The line of a complaint, put into a room.
-ghost use Rattle.std.specs.Prelude.{◌≡◌, ◌+◌, ◌≤◌, min, length};
+ghost use Rattle.std.specs.Prelude.{◌≡◌, ◌+◌, ◌≤◌, length};
 ghost use Rattle.report.specs.Put.{Put};
 ghost use Rattle.named.specs.Parts.{cut};
 ghost use Rattle.complaint.specs.Complaint.{visible, all_visible, word_shown, line_of};
@@ -16,37 +16,24 @@ fn put_word(room: &mut [u8], at: usize, word: &[u8]) -> usize
 }
 
 // A blank, a line feed and whatever else is no plain sign is shown as `?`.
+#[tactic(auto, unfolding(crate::specs::Complaint::visible))]
 fn visible_byte(b: u8) -> u8
     ensures { result ≡ visible b }
 {
-    if b < 33 {
-        return b'?';
+    match b {
+        b'!'..=b'~' => b,
+        _ => b'?',
     }
-    if 126 < b {
-        return b'?';
-    }
-    b
 }
 
 fn put_visible(room: &mut [u8], at: usize, word: &[u8]) -> usize
     requires { at + length word.now ≤ length room.old }
     ensures { Put room.old at (all_visible word.now) result room.new }
 {
-    let mut i: usize = 0;
-    while i < word.len() {
-        room[at + i] = visible_byte(word[i]);
-        i += 1;
+    for (i, b) in word.iter().enumerate() {
+        room[at + i] = visible_byte(*b);
     }
-    at + i
-}
-
-fn lesser(a: usize, b: usize) -> usize
-    ensures { result ≡ min a b }
-{
-    if a < b {
-        return a;
-    }
-    b
+    at + word.len()
 }
 
 // As much of a span as the line has and as is shown: a caller may hand in any span.
@@ -54,15 +41,12 @@ fn shown_part(line: &[u8], span: Span) -> Span
     ensures { ShownPart line.now span result }
 {
     let from = span.from;
-    let end = lesser(span.to, line.len());
+    let end = span.to.min(line.len());
     if end <= from {
         return Span { from: end, to: end };
     }
-    let n = lesser(end - from, 200);
-    Span {
-        from: from,
-        to: from + n,
-    }
+    let n = (end - from).min(200);
+    Span { from, to: from + n }
 }
 
 // A line: its head, a part of another line made visible, and the line's end.
@@ -71,15 +55,14 @@ pub(crate) fn put_line(room: &mut [u8], head: &[u8], line: &[u8], span: Span) ->
     ensures { Put room.old 0 (line_of head.now (word_shown (cut line.now span))) result room.new }
 {
     let part = shown_part(line, span);
-    let from = part.from;
-    let to = part.to;
     let a = put_word(room, 0, head);
-    let b = put_visible(room, a, &line[from..to]);
+    let b = put_visible(room, a, &line[part.from..part.to]);
     room[b] = b'\n';
     b + 1
 }
 
 // Where a name stands among all of them, written one behind the other.
+#[tactic(auto, unfolding(crate::specs::Parts::place_of))]
 pub(crate) fn place_of(name: Name) -> Span
     ensures { result ≡ place_of name }
 {

@@ -5,66 +5,55 @@
 ghost use Rattle.std.specs.Prelude.{◌≡◌};
 ghost use Rattle.decided.specs.Decided.{ready_of, storing, end_of, after_merging};
 
-use paper::{Answer, Fault, Joint, Merged};
+use paper::{Answer, Fault, Joined, Merged, Unmerged};
 use report::{Replied, Said};
 
-// Whether there is a trace and a table to judge it by, or what is said without.
-#[derive(Clone, Copy)]
-pub enum Readiness {
-    Both,
-    Ended(Said),
-}
-
 // "cannot read" for either file before all else that is asked of them, and 2 for a table of another length.
-pub fn ready(read: bool, got: bool, fits: bool) -> Readiness
+#[tactic(auto, unfolding(crate::specs::Decided::ready_of))]
+pub fn ready(read: bool, got: bool, fits: bool) -> Result<(), Said>
     ensures { result ≡ ready_of read got fits }
 {
-    if !read {
-        return Readiness::Ended(Said::CannotRead);
-    }
-    if !got {
-        return Readiness::Ended(Said::CannotRead);
+    if !(read && got) {
+        return Err(Said::CannotRead);
     }
     if !fits {
-        return Readiness::Ended(Said::Answered(answer::refused_nowhere(Fault::WrongLength)));
+        return Err(Said::Answered(answer::refused_nowhere(Fault::WrongLength)));
     }
-    Readiness::Both
+    Ok(())
 }
 
 // Only an accepted trace that is wanted goes to its file.
+#[tactic(auto, unfolding(crate::specs::Decided::storing))]
 pub fn to_store(wanted: bool, answer: Answer) -> bool
     ensures { result ≡ storing wanted answer }
 {
-    if !wanted {
-        return false;
-    }
-    answer.number == 0
+    wanted && answer.number == 0
 }
 
 // The report, or that what was to be stored could not be.
+#[tactic(auto, unfolding(crate::specs::Decided::end_of))]
 pub fn ended(storing: bool, answer: Answer, stored: bool) -> Said
     ensures { result ≡ end_of storing answer stored }
 {
-    if !storing {
-        return Said::Answered(answer);
+    if storing && !stored {
+        return Said::CannotWrite;
     }
-    if stored {
-        return Said::Answered(answer);
-    }
-    Said::CannotWrite
+    Said::Answered(answer)
 }
 
 // What two traces came to as one, or that it could not be stored. A refusal is told in its numbers, which `merged` has.
-pub fn after_merging(joint: Joint, merged: Merged, stored: bool) -> Replied
+#[tactic(auto, unfolding(crate::specs::Decided::after_merging))]
+pub fn after_merging(joint: Result<Joined, Unmerged>, merged: Merged, stored: bool) -> Replied
     ensures { result ≡ after_merging joint merged stored }
 {
     match joint {
-        Joint::Refused(_, _, _) => Replied::Refused(merged),
-        Joint::Of(joined) => {
-            if !stored {
-                return Replied::CannotWrite;
+        Err(_) => Replied::Refused(merged),
+        Ok(joined) => {
+            if stored {
+                Replied::Merged(joined)
+            } else {
+                Replied::CannotWrite
             }
-            Replied::Merged(joined)
         }
     }
 }

@@ -6,7 +6,7 @@ use mathlib.Core.List.{List, [], ◌∷◌}
 use native.Mathlib.Omega.{arith}
 use lib.ListN.{length}
 use lib.IntN.{ℤ}
-use lib.Dec.{ltb}
+use lib.Dec.{eqb, ltb}
 use borrow.Author.Tests.{eq-eqb, ne_eqb, eqb-true, ltb-true, not-true, not-false}
 use Rattle.paper.specs.Text.{bytes_of}
 use Rattle.paper.specs.Clock.{time_at}
@@ -26,7 +26,7 @@ use Rattle.deliveries.specs.Deliveries.{line_of, lines_of, deliveries_of, pairs_
 -- ---- whether the slices fit
 
 module _ (sends times room : ℕ) where
-  pub other_length : (times ≡ sends → ⊥) → false ≡ fitting sends times room
+  pub other_length : (times ≡ sends → ⊥) → eqb times sends ≡ fitting sends times room
   unfolding fitting
   other_length h = rw (ne_eqb times sends h)
 

@@ -11,12 +11,6 @@ ghost use Rattle.mail.specs.Mail.{send_in};
 ghost use Rattle.report.specs.Put.{Short};
 ghost use Rattle.deliveries.specs.Deliveries.{lines_of, pairs_in, fitting, DeliveredInto};
 
-fn wide(n: u32) -> usize
-    ensures { result ≡ n }
-{
-    n as usize
-}
-
 // The message that the record at place i receives, where it receives one.
 fn put_received(
     store: &[u32],
@@ -29,7 +23,7 @@ fn put_received(
     requires { (i < length sends.now) × (length times.now ≡ length sends.now) × (at + 256 ≤ length room.old) }
     ensures { Short 256 room.old at (lines_of (entries_in store.now (length times.now)) (time_at times.now) (message_at i (send_in sends.now i))) result room.new }
 {
-    let send = wide(sends[i]);
+    let send = sends[i] as usize;
     if times.len() <= send {
         return at;
     }
@@ -43,11 +37,9 @@ fn put_lines(store: &[u32], sends: &[u32], times: &[i64], room: &mut [u8]) -> us
     requires { (length times.now ≡ length sends.now) × (256 * length sends.now + 256 ≤ length room.old) }
     ensures { Short (256 * length sends.now) room.old 0 (lines_of (entries_in store.now (length times.now)) (time_at times.now) (pairs_in sends.now)) result room.new }
 {
-    let mut at: usize = 0;
-    let mut i: usize = 0;
-    while i < sends.len() {
+    let mut at = 0;
+    for i in 0..sends.len() {
         at = put_received(store, sends, times, i, room, at);
-        i += 1;
     }
     at
 }
@@ -56,10 +48,7 @@ fn put_lines(store: &[u32], sends: &[u32], times: &[i64], room: &mut [u8]) -> us
 fn fits(sends: usize, times: usize, room: usize) -> bool
     ensures { result ≡ fitting sends times room }
 {
-    if times != sends {
-        return false;
-    }
-    sends < room / 256
+    times == sends && sends < room / 256
 }
 
 // The text at the room's start, and its length: of the records in the store, the places of their sends and their times. Silence is no

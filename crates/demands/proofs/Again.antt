@@ -1,4 +1,5 @@
 -- "reading it again under that table and choice, if it is within the size limit, gives those times and moves none"
+use Rattle.std.specs.Prelude.{Ok}
 use Prim.Native.Nat.{ℕ, ◌≤◌, ◌<◌}
 use native.Mathlib.Omega.{arith}
 use mathlib.Core.Path.{◌≡◌, refl, sym, ap, ◌∙◌}
@@ -17,7 +18,6 @@ use Rattle.paper.specs.Answer.{Inputs, Outcome, given, most, longest, heard, jud
 use Rattle.paper.specs.declared.Asked.{Asked}
 use Rattle.paper.specs.declared.Choice.{Choice}
 use Rattle.paper.specs.declared.Entry.{Entry}
-use Rattle.paper.specs.declared.Stop.TheVariants.{End}
 use Rattle.matching.proofs.Times.{Alike, same_size, same_matched, same_matched_count, same_unreceived_count}
 use Rattle.matching.proofs.Levels.{same_levels}
 use Rattle.reading.proofs.Bytes.{clean_lines}
@@ -62,7 +62,7 @@ module _ (i : Inputs) (a : Accepted i) where
       (λ k l. between (original es k) (time_at a.times k) (originals_range choice (most (given i)) i.trace whole k l) (allowed.above k l) (allowed.format k l))
       allowed.order
 
-  read_again : (st : State) × (read_of choice (most (given i)) written_bytes ≡ record { stop = End; entries = with_times es a.times; state = st })
+  read_again : (st : State) × (read_of choice (most (given i)) written_bytes ≡ record { stop = Ok tt; entries = with_times es a.times; state = st })
       × (st.passed ≡ (reading i choice).state.passed)
   read_again =
       let (st, reads, passed) = reread (along_trace i a) (clean_lines i.trace) a.times start refl refl rise in
@@ -91,7 +91,7 @@ module _ (i : Inputs) (a : Accepted i) (wanted : i.wanted ≡ true) (short : wri
   same_limit : most (given j) ≡ most (given i)
   same_limit = same_most (given j) (given i) g.places
 
-  reading_is : reading j a.choice ≡ record { stop = End; entries = with_times (es i a) a.times; state = (read_again i a).0 }
+  reading_is : reading j a.choice ≡ record { stop = Ok tt; entries = with_times (es i a) a.times; state = (read_again i a).0 }
   reading_is =
       ap (λ (n : ℕ). read_of a.choice n j.trace) same_limit ∙ ap (read_of a.choice (most (given i))) trace_is ∙ (read_again i a).1
 

@@ -1,8 +1,8 @@
 -- The times that the demand speaks of are the paper's sound times.
+use Rattle.std.specs.Prelude.{Some}
 use Prim.Native.Nat.{ℕ, ◌+◌, ◌*◌, ◌≤◌, ◌<◌}
 use native.Mathlib.Omega.{arith}
 use mathlib.Core.Path.{◌≡◌}
-use mathlib.Core.Option.{some}
 use mathlib.Core.List.{List}
 use lib.ListN.{length, get_or}
 use lib.IntN.{ℤ, pos, ◌+ℤ◌}
@@ -26,19 +26,19 @@ module _ (es : List Entry) where
   pub directly : (j k : ℕ) → LastOn es (processor_at es k) k j → DirectlyBefore es j k
   directly j k f = record { before = f.before; on = f.on; none_between = λ m a b. f.none_between m a (omega (arith, f.before, b)) }
 
-  waited_for : (j k : ℕ) → DirectlyBefore es j k → last_on es (processor_at es k) k ≡ some j
+  waited_for : (j k : ℕ) → DirectlyBefore es j k → last_on es (processor_at es k) k ≡ Some j
   waited_for j k d =
       on_last es (processor_at es k) k j
       (record { before = d.before; on = d.on; none_between = λ m a b. d.none_between m a (omega (arith, a, b)) })
 
 module _ (share : ℕ) (table : List ℕ) (es : List Entry) where
   -- "the entry at 64 times sender plus receiver"
-  latency_at_lem : (j k : ℕ) → send_of es k ≡ some j
+  latency_at_lem : (j k : ℕ) → send_of es k ≡ Some j
       → latency_for table (processor_at es k) (role_at es k) ≡ get_or table (64 * processor_at es j + processor_at es k) 0
   unfolding latency_for
   latency_at_lem j k e = let b = belongs es k j e in rw (b.receives, b.from)
 
-  gap_at : (j k : ℕ) → last_on es (processor_at es k) k ≡ some j
+  gap_at : (j k : ℕ) → last_on es (processor_at es k) k ≡ Some j
       → gap_from share es k (last_on es (processor_at es k) k) ≡ gap_of share (original es j) (original es k)
   unfolding gap_from
   gap_at j k e = rw e

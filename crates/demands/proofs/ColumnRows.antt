@@ -9,7 +9,6 @@ use Rattle.paper.specs.Columns.{nowhere}
 use Rattle.paper.specs.Answer.{Inputs}
 use Rattle.paper.specs.declared.Choice.{Choice}
 use Rattle.paper.specs.declared.Fault.{Fault}
-use Rattle.paper.specs.declared.Fault.TheVariants as Fault
 use Rattle.paper.specs.declared.Site.{Site}
 use Rattle.demands.specs.Table.{InField, When}
 use Rattle.demands.proofs.Columns.{column_from_1}

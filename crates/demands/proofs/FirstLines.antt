@@ -1,4 +1,5 @@
 -- "Where the first lines of a trace are accepted and the whole is too .. the later lines change no time of the earlier ones."
+use Rattle.std.specs.Prelude.{Result, Ok, Err}
 use Prim.Native.Nat.{ℕ, ◌<◌}
 use native.Mathlib.Omega.{arith}
 use mathlib.Core.Path.{◌≡◌, refl, sym, ap, ◌∙◌}
@@ -11,8 +12,7 @@ use Rattle.paper.specs.Answer.{Inputs, given, most}
 use Rattle.paper.specs.declared.Asked.{Asked}
 use Rattle.paper.specs.declared.Choice.{Choice}
 use Rattle.paper.specs.declared.Entry.{Entry}
-use Rattle.paper.specs.declared.Stop.{Stop}
-use Rattle.paper.specs.declared.Stop.TheVariants.{End, At}
+use Rattle.paper.specs.declared.Refusal.{Refusal}
 use Rattle.matching.proofs.FirstLines.{waits_begin}
 use Rattle.reading.specs.Joined.{AllEnded, resumed}
 use Rattle.reading.proofs.Joined.{read_joined}
@@ -27,22 +27,22 @@ use Rattle.demands.proofs.Closed.{waits_closed}
 use Rattle.demands.proofs.Times.{one_choice, listed_is, time_is}
 
 -- a trace that is read to its end has an LF behind each line: bytes behind it only add records, where the whole is read to its end too
-module _ (choice : Choice) (most : ℕ) (s more : List ℕ) (whole : (read_of choice most (s ++ more)).stop ≡ End) (ended : AllEnded (lines_of s)) where
-  first_whole : (read_of choice most s).stop ≡ End
+module _ (choice : Choice) (most : ℕ) (s more : List ℕ) (whole : (read_of choice most (s ++ more)).stop ≡ Ok tt) (ended : AllEnded (lines_of s)) where
+  first_whole : (read_of choice most s).stop ≡ Ok tt
   unfolding resumed
   first_whole = go (read_of choice most s).stop refl
     where
-      go : (x : Stop) → (read_of choice most s).stop ≡ x → x ≡ End
-      go End e = refl
-      go (At fault site) e = sym (ap (λ (r : Reading). r.stop) (rw e at (read_joined choice most s more ended))) ∙ whole
+      go : (x : Result Unit Refusal) → (read_of choice most s).stop ≡ x → x ≡ Ok tt
+      go (Ok tt) e = refl
+      go (Err refusal) e = sym (ap (λ (r : Reading). r.stop) (rw e at (read_joined choice most s more ended))) ∙ whole
 
   first_entries : (later : List Entry) × ((read_of choice most (s ++ more)).entries ≡ (read_of choice most s).entries ++ later)
   unfolding resumed
   first_entries = (_, ap (λ (r : Reading). r.entries) (rw first_whole at (read_joined choice most s more ended)))
 
 -- and it does not matter how many records each of the two may list
-pub more_entries : (choice : Choice) (most most' : ℕ) (s more t : List ℕ) → t ≡ s ++ more → (read_of choice most s).stop ≡ End
-    → (read_of choice most' t).stop ≡ End → (later : List Entry) × ((read_of choice most' t).entries ≡ (read_of choice most s).entries ++ later)
+pub more_entries : (choice : Choice) (most most' : ℕ) (s more t : List ℕ) → t ≡ s ++ more → (read_of choice most s).stop ≡ Ok tt
+    → (read_of choice most' t).stop ≡ Ok tt → (later : List Entry) × ((read_of choice most' t).entries ≡ (read_of choice most s).entries ++ later)
 more_entries choice most most' s more t joined e e' =
     let ended = all_ended (along choice most s e) in
     let whole = rw joined at e' in
@@ -52,7 +52,7 @@ more_entries choice most most' s more t joined e e' =
 
 -- ---- their waits, and so their times, stay
 
-waits_first : (share : ℕ) (table : List ℕ) (es later : List Entry) → matched_of es ≡ End
+waits_first : (share : ℕ) (table : List ℕ) (es later : List Entry) → matched_of es ≡ Ok tt
     → First (waits_of share table es) (waits_of share table (es ++ later))
 waits_first share table es later e =
     let b = waits_begin es later share table e in

@@ -1,10 +1,10 @@
 -- The lines before a line are good exactly if the reading comes to it, and it stops where the rows say.
+use Rattle.std.specs.Prelude.{Option, Result, Some, None, Ok, Err}
 use Prim.Native.Nat.{ℕ, suc, ◌+◌, ◌≤◌, ◌<◌}
 use native.Mathlib.Omega.{arith}
 use native.Mathlib.Decide.{ℕ_discrete}
 use mathlib.Core.Path.{◌≡◌, refl, sym, ap, ◌∙◌}
 use mathlib.Core.Bool.{Bool, true, false, cond}
-use mathlib.Core.Option.{Option, none, some}
 use mathlib.Core.List.{List, [], ◌∷◌, ◌++◌, append_assoc, append-nil}
 use lib.ListN.{length, get_or, set, length-append, length-set, get_or-replicate}
 use lib.Seq.{get_or-append_seam, get_or-set_same, get_or-set_other}
@@ -14,20 +14,16 @@ use lib.Dec.{eqb, leb}
 use borrow.Author.Tests.{eq-eqb, ne_eqb, leb-true, leb-false, le-leb, lt-leb, le-ltb}
 use Rattle.paper.specs.Line.{line_of}
 use Rattle.paper.specs.Numbers.{number_of}
-use Rattle.paper.specs.Columns.{past_end, column_in, in_line}
+use Rattle.paper.specs.Columns.{past_end, column_in, in_line, refused_at}
 use Rattle.paper.specs.Reading.{Lines, done, unended, ended, State, start, Reading, checked, with_passed, with_listed, with_entry, on_line, read_from}
 use Rattle.paper.specs.Matching.{entry_at, last_of, last_on}
 use Rattle.paper.specs.declared.Choice.{Choice}
 use Rattle.paper.specs.declared.Entry.{Entry}
 use Rattle.paper.specs.declared.Fault.{Fault}
-use Rattle.paper.specs.declared.Fault.TheVariants as Fault
 use Rattle.paper.specs.declared.Line.{Line}
 use Rattle.paper.specs.declared.Line.TheVariants.{Refused, Passed, Listed}
 use Rattle.paper.specs.declared.Record.{Record}
-use Rattle.paper.specs.declared.Spot.{Spot}
-use Rattle.paper.specs.declared.Spot.TheVariants as Spot
-use Rattle.paper.specs.declared.Stop.{Stop}
-use Rattle.paper.specs.declared.Stop.TheVariants.{End, At}
+use Rattle.paper.specs.declared.Refusal.{Refusal}
 use Rattle.reading.specs.Joined.{behind}
 use Rattle.reading.specs.Tidy.{InRange}
 use Rattle.reading.proofs.Tidy.{tidy_record, time_of_line}
@@ -43,8 +39,8 @@ use Rattle.demands.proofs.LineRows.{RowIn, row_number, refused_row, row_refused}
 -- ---- the state that some listed records leave
 
 abbrev time_on : List Entry → Option ℕ → ℤ
-time_on es none = negsuc 999999999999998
-time_on es (some k) = original es k
+time_on es None = negsuc 999999999999998
+time_on es (Some k) = original es k
 
 abbrev last_time : List Entry → ℕ → ℤ
 last_time es p = time_on es (last_on es p (length es))
@@ -75,15 +71,15 @@ module _ (es : List Entry) (e : Entry) where
   length_more = simp length-append (omega arith)
 
   time_stays : (p : ℕ) (o : Option ℕ) → last_on es p (length es) ≡ o → time_on more o ≡ time_on es o
-  time_stays p none q = refl
-  time_stays p (some k) q = ap (λ (f : Entry). f.body.time) (entry_stays es (e ∷ []) k (last_on_lem es p (length es) k q).before)
+  time_stays p None q = refl
+  time_stays p (Some k) q = ap (λ (f : Entry). f.body.time) (entry_stays es (e ∷ []) k (last_on_lem es p (length es) k q).before)
 
   last_more : (p : ℕ) → last_time more p ≡ cond (eqb e.body.processor p) e.body.time (last_time es p)
   unfolding last_of
   last_more p =
       rw (length_more, last_entry, last_stays es (e ∷ []) p (length es) (omega arith)) (go (eqb e.body.processor p))
     where
-      go : (t : Bool) → time_on more (cond t (some (length es)) (last_on es p (length es))) ≡ cond t e.body.time (last_time es p)
+      go : (t : Bool) → time_on more (cond t (Some (length es)) (last_on es p (length es))) ≡ cond t e.body.time (last_time es p)
       go true = ap (λ (f : Entry). f.body.time) last_entry
       go false = time_stays p _ refl
 
@@ -125,8 +121,8 @@ module _ (es : List Entry) (st : State) (h : Held es st) (r : Record) (range : I
   below t = go (last_on es r.processor (length es)) refl (sym below_is ∙ t)
     where
       go : (o : Option ℕ) → last_on es r.processor (length es) ≡ o → lt_z r.time (time_on es o) ≡ true → Below es r
-      go none q t = let f = above_least r.time range in absurd (let z : ◌≡◌ {A = ℕ} 0 1 = cc in omega arith)
-      go (some k) q t = (k, q, lt_z_yes (rw t tt))
+      go None q t = let f = above_least r.time range in absurd (let z : ◌≡◌ {A = ℕ} 0 1 = cc in omega arith)
+      go (Some k) q t = (k, q, lt_z_yes (rw t tt))
 
   is_below_lem : Below es r → is_below ≡ true
   is_below_lem b = go is_below refl
@@ -197,7 +193,8 @@ module _ (choice : Choice) (limit : ℕ) (lines : Lines) where
   -- with the column
   pub data StopsOn (es : List Entry) : Fault → Lines → ℕ → Type 0 where
     no_end : {l : List ℕ} → StopsOn es Fault.Form (unended l) (past_end l)
-    in_line_lem : {fault : Fault} {spot : Spot} {l : List ℕ} {x : Lines} → RowIn choice l fault spot → StopsOn es fault (ended l x) (column_in l spot)
+    in_line_lem : {fault : Fault} {spot : Option ℕ} {l : List ℕ} {x : Lines} → RowIn choice l fault spot
+        → StopsOn es fault (ended l x) (column_in l spot)
     backwards : {l : List ℕ} {x : Lines} → Backwards es choice l → StopsOn es Fault.Backwards (ended l x) 0
     too_many_lem : {l : List ℕ} {x : Lines} → TooMany limit es choice l → StopsOn es Fault.TooMany (ended l x) 0
 
@@ -209,7 +206,7 @@ module _ (choice : Choice) (limit : ℕ) (lines : Lines) where
   stops_number (too_many_lem r) = (omega arith, omega arith)
 
   stop_here : (n : ℕ) (es : List Entry) (st : State) → Held es st → {fault : Fault} {rest : Lines} {column : ℕ} → StopsOn es fault rest column
-      → (read_from choice limit rest n st).stop ≡ At fault (in_line n column)
+      → (read_from choice limit rest n st).stop ≡ refused_at fault (in_line n column)
   unfolding read_from checked on_line column_in
   stop_here n es st h no_end = refl
   stop_here n es st h (in_line_lem {l = l} row) = rw (row_refused choice l row)
@@ -223,12 +220,12 @@ module _ (choice : Choice) (limit : ℕ) (lines : Lines) where
       )
 
   pub stops_there : {n : ℕ} {es : List Entry} {rest : Lines} → Good choice limit lines n es rest → {fault : Fault} {column : ℕ} → StopsOn es fault rest column
-      → (read_from choice limit lines 1 start).stop ≡ At fault (in_line n column)
+      → (read_from choice limit lines 1 start).stop ≡ refused_at fault (in_line n column)
   stops_there {n} {es} g s =
       let c = comes g in ap (λ (r : Reading). r.stop) c.reads ∙ stop_here n es c.state c.held s
 
   pub ends_there : {n : ℕ} {es : List Entry} → Good choice limit lines n es done
-      → ((read_from choice limit lines 1 start).stop ≡ End) × ((read_from choice limit lines 1 start).entries ≡ es)
+      → ((read_from choice limit lines 1 start).stop ≡ Ok tt) × ((read_from choice limit lines 1 start).entries ≡ es)
   unfolding read_from
   ends_there {n} {es} g =
       let c = comes g in
@@ -236,9 +233,10 @@ module _ (choice : Choice) (limit : ℕ) (lines : Lines) where
 
   -- ---- and where the reading stops it has come to
 
-  abbrev pub Stopped : Stop → Type 0
-  Stopped End = (n : ℕ) × (es : List Entry) × Good choice limit lines n es done
-  Stopped (At fault s) = (es : List Entry) × (rest : Lines) × Good choice limit lines s.line es rest × StopsOn es fault rest s.column
+  abbrev pub Stopped : Result Unit Refusal → Type 0
+  Stopped (Ok tt) = (n : ℕ) × (es : List Entry) × Good choice limit lines n es done
+  Stopped (Err refusal) =
+      (es : List Entry) × (rest : Lines) × Good choice limit lines refusal.site.line es rest × StopsOn es refusal.fault rest refusal.site.column
 
   walk : (rest : Lines) (n : ℕ) (es : List Entry) (st : State) → Good choice limit lines n es rest → Held es st
       → Stopped (read_from choice limit rest n st).stop
@@ -260,7 +258,8 @@ module _ (choice : Choice) (limit : ℕ) (lines : Lines) where
           place = (tidy_record choice l r p).processor
 
           on_listed : (t : Bool) → lt_z r.time (get_or st.last r.processor (pos 0)) ≡ t → (b : Bool) → leb limit st.listed ≡ b
-              → Stopped (on_line n l st (cond t (Refused Fault.Backwards Spot.Whole) (cond b (Refused Fault.TooMany Spot.Whole) (Listed r))) (λ st₁. read_from choice limit x (n + 1) st₁)).stop
+              → Stopped (on_line n l st (cond t (Refused Fault.Backwards None) (cond b (Refused Fault.TooMany None) (Listed r)))
+              (λ st₁. read_from choice limit x (n + 1) st₁)).stop
           on_listed true a b c = (es, ended l x, g, backwards (r, p, below es st h r range place a))
           on_listed false a true c =
               (es, ended l x, g, too_many_lem (r, p, not_below es st h r range place a, omega (arith, h.count, few_good g, leb-true limit st.listed c)))

@@ -1,5 +1,6 @@
 -- What the reading makes sure of: there are not too many listed records, the time of each is in range, and none is below an earlier
 -- one of its processor.
+use Rattle.std.specs.Prelude.{Ok}
 use Prim.Native.Nat.{ℕ, zero, suc, ◌+◌, ◌≤◌, ◌<◌}
 use native.Mathlib.Omega.{arith}
 use native.Mathlib.Decide.{ℕ_discrete}
@@ -14,7 +15,6 @@ use Rattle.paper.specs.Matching.{entry_at}
 use Rattle.paper.specs.declared.Choice.{Choice}
 use Rattle.paper.specs.declared.Entry.{Entry}
 use Rattle.paper.specs.declared.Record.{Record}
-use Rattle.paper.specs.declared.Stop.TheVariants.{End}
 use Rattle.matching.specs.Belongs.{processor}
 use Rattle.reading.specs.Tidy.{InRange}
 use Rattle.reading.proofs.Tidy.{tidy_record, time_of_line}
@@ -96,7 +96,7 @@ pub start_size : length start.last ≡ 64
 unfolding start
 start_size = length-replicate 64 (negsuc 999999999999998)
 
-module _ (choice : Choice) (most : ℕ) (s : List ℕ) (whole : (read_of choice most s).stop ≡ End) where
+module _ (choice : Choice) (most : ℕ) (s : List ℕ) (whole : (read_of choice most s).stop ≡ Ok tt) where
   abbrev es : List Entry
   es = (read_of choice most s).entries
 

@@ -6,7 +6,6 @@ use borrow.Author.Tests.{lt-ltb, le-ltb}
 use Rattle.paper.specs.Columns.{nowhere}
 use Rattle.paper.specs.Answer.{Inputs, given, Found, stopped, found, reach, refused, accepted, written, on_written, conclude, judge}
 use Rattle.paper.specs.declared.Fault.{Fault}
-use Rattle.paper.specs.declared.Fault.TheVariants as Fault
 use Rattle.paper.specs.declared.Site.{Site}
 use Rattle.demands.specs.Steps.{Accepted}
 use Rattle.demands.proofs.Reached.{found_by, reach_found}

@@ -1,18 +1,18 @@
 -- Row 17: what the levels of some records come to is what the row says of them.
+use Rattle.std.specs.Prelude.{Option, Result, Some, None, Ok, Err, option_map}
 use Prim.Native.Nat.{ℕ, zero, suc, ◌+◌, ◌≤◌, ◌<◌}
 use native.Mathlib.Omega.{arith}
 use native.Mathlib.Decide.{dec_lt}
 use mathlib.Core.Path.{◌≡◌, refl, sym, ap, ◌∙◌}
 use mathlib.Core.Logic.{◌↔◌}
 use mathlib.Core.Bool.{Bool, true, false, cond}
-use mathlib.Core.Option.{Option, none, some, map}
 use mathlib.Core.List.{List}
 use lib.ListN.{length}
 use lib.IntN.{ℤ, negsuc}
 use lib.Dec.{eqb}
 use borrow.Author.Tests.{eqb-true, eq-eqb}
 use Rattle.paper.specs.Tests.{eq_z}
-use Rattle.paper.specs.Columns.{whole_line}
+use Rattle.paper.specs.Columns.{whole_line, refused_at}
 use Rattle.paper.specs.Levels.{is_three, counts, is_mark, last_mark, expected, agrees, off_at, on_off, levels_from, levels_of}
 use Rattle.paper.specs.Matching.{entry_at, is_on, last_on}
 use Rattle.paper.specs.declared.Asked.{Asked}
@@ -20,10 +20,8 @@ use Rattle.paper.specs.declared.Data.{Data}
 use Rattle.paper.specs.declared.Data.TheVariants.{Three, Others}
 use Rattle.paper.specs.declared.Entry.{Entry}
 use Rattle.paper.specs.declared.Fault.{Fault}
-use Rattle.paper.specs.declared.Fault.TheVariants as Fault
 use Rattle.paper.specs.declared.Site.{Site}
-use Rattle.paper.specs.declared.Stop.{Stop}
-use Rattle.paper.specs.declared.Stop.TheVariants.{End, At}
+use Rattle.paper.specs.declared.Refusal.{Refusal}
 use Rattle.forms.proofs.Tests.{both, never}
 use Rattle.matching.specs.Belongs.{processor}
 use Rattle.matching.proofs.Keys.{eq_z_true, eq_z_same}
@@ -90,8 +88,8 @@ mark_tells p e = record { holds = mark_holds p e; told = mark_told p e }
 module _ (a : Asked) (es : List Entry) (p : ℕ) where
   as_expected : (o : Option ℕ) → last_mark es p (length es) ≡ o → agrees a es o ≡ true → AsExpected a es p
   unfolding agrees expected
-  as_expected none q e = never (cc)
-  as_expected (some k) q e =
+  as_expected None q e = never (cc)
+  as_expected (Some k) q e =
       let last = last_such es (is_mark p) (Mark p) (mark_tells p) k (last_of_lem (is_mark p) es (length es) k q) in
       let m = last.is in
       let (two, trace) = both _ (eq_z m.trace a.trace) (rw m.three at e) in
@@ -116,15 +114,15 @@ module _ (a : Asked) (es : List Entry) (p : ℕ) where
   agrees_tells : Tells (agrees a es (last_mark es p (length es))) (AsExpected a es p)
   agrees_tells = record { holds = as_expected _ refl; told = expected_agrees }
 
-  off_row : (line : ℕ) → off_at a es p ≡ some line → Off a es p line
+  off_row : (line : ℕ) → off_at a es p ≡ Some line → Off a es p line
   unfolding off_at
   off_row line e = go (agrees a es (last_mark es p (length es))) refl (last_on es p (length es)) refl e
     where
       go : (t : Bool) → agrees a es (last_mark es p (length es)) ≡ t → (o : Option ℕ) → last_on es p (length es) ≡ o
-          → cond t none (map (λ k. (entry_at es k).line) o) ≡ some line → Off a es p line
+          → cond t None (option_map (λ k. (entry_at es k).line) o) ≡ Some line → Off a es p line
       go true d o q e = never (cc)
-      go false d none q e = never (cc)
-      go false d (some k) q e =
+      go false d None q e = never (cc)
+      go false d (Some k) q e =
           record {
             place = k;
             last = last_such es (is_on p) (On p) (on_tells p) k (last_of_lem (is_on p) es (length es) k q);
@@ -132,16 +130,16 @@ module _ (a : Asked) (es : List Entry) (p : ℕ) where
             differs = untold agrees_tells d;
           }
 
-  row_off : (line : ℕ) → Off a es p line → off_at a es p ≡ some line
+  row_off : (line : ℕ) → Off a es p line → off_at a es p ≡ Some line
   unfolding off_at
   row_off line off =
       rw (
         not_told agrees_tells off.differs,
         last_back (is_on p) es (length es) off.place (such_last es (is_on p) (On p) (on_tells p) off.place off.last),
       )
-      (ap some off.its_line)
+      (ap Some off.its_line)
 
-  none_off : off_at a es p ≡ none → (n : ℕ) → ¬ Off a es p n
+  none_off : off_at a es p ≡ None → (n : ℕ) → ¬ Off a es p n
   none_off e n off = let f = row_off n off in never (cc)
 
   one_line : (m n : ℕ) → Off a es p m → Off a es p n → m ≡ n
@@ -154,26 +152,26 @@ module _ (a : Asked) (es : List Entry) where
   abbrev Quiet : ℕ → ℕ → Type 0
   Quiet p q = (r : ℕ) → p ≤ r → r < q → (n : ℕ) → ¬ Off a es r n
 
-  quiet_first : (p q : ℕ) → off_at a es p ≡ none → Quiet (suc p) q → Quiet p q
+  quiet_first : (p q : ℕ) → off_at a es p ≡ None → Quiet (suc p) q → Quiet p q
   quiet_first p q e quiet r l m = go (dec_lt p r)
     where
       go : Dec (p < r) → (n : ℕ) → ¬ Off a es r n
       go (yes h) = quiet r (omega arith) m
       go (no h) = let z : r ≡ p = omega arith in rw z (none_off a es p e)
 
-  abbrev Told : ℕ → ℕ → Stop → Type 0
-  Told p n End = Quiet p (p + n)
-  Told p n (At fault s) = (fault ≡ Fault.OtherLevels) × (s.column ≡ 0) × (q : ℕ) × Off a es q s.line × Quiet p q
+  abbrev Told : ℕ → ℕ → Result Unit Refusal → Type 0
+  Told p n (Ok tt) = Quiet p (p + n)
+  Told p n (Err refusal) = (refusal.fault ≡ Fault.OtherLevels) × (refusal.site.column ≡ 0) × (q : ℕ) × Off a es q refusal.site.line × Quiet p q
 
   told : (p n : ℕ) → Told p n (levels_from a es p n)
   unfolding levels_from
   told p zero = λ r l m. absurd (omega arith)
   told p (suc n) = go (off_at a es p) refl (levels_from a es (suc p) n) (told (suc p) n)
     where
-      go : (o : Option ℕ) → off_at a es p ≡ o → (s : Stop) → Told (suc p) n s → Told p (suc n) (on_off o s)
-      go (some line) e s f = (refl, refl, p, off_row a es p line e, λ r l m. absurd (omega arith))
-      go none e End f = λ r l m. quiet_first p (suc p + n) e f r l (omega arith)
-      go none e (At fault s) (same, whole, q, off, quiet) = (same, whole, q, off, quiet_first p q e quiet)
+      go : (o : Option ℕ) → off_at a es p ≡ o → (s : Result Unit Refusal) → Told (suc p) n s → Told p (suc n) (on_off o s)
+      go (Some line) e s f = (refl, refl, p, off_row a es p line e, λ r l m. absurd (omega arith))
+      go None e (Ok tt) f = λ r l m. quiet_first p (suc p + n) e f r l (omega arith)
+      go None e (Err refusal) (same, whole, q, off, quiet) = (same, whole, q, off, quiet_first p q e quiet)
 
   -- 17 at a line, without a column
   abbrev Seventeen : Fault → Site → Type 0
@@ -184,46 +182,46 @@ module _ (a : Asked) (es : List Entry) where
     off_low : (p n : ℕ) → Off a es p n → p < 64
     off_low p n off = omega (arith, low off.place off.last.within, off.last.is)
 
-    at_row : (fault : Fault) (s : Site) → levels_of a es ≡ At fault s → Seventeen fault s
+    at_row : (fault : Fault) (s : Site) → levels_of a es ≡ refused_at fault s → Seventeen fault s
     unfolding levels_of
     at_row fault s e = go (eqb a.levels 1) refl e
       where
-        go : (t : Bool) → eqb a.levels 1 ≡ t → cond t (levels_from a es 0 64) End ≡ At fault s → Seventeen fault s
+        go : (t : Bool) → eqb a.levels 1 ≡ t → cond t (levels_from a es 0 64) (Ok tt) ≡ refused_at fault s → Seventeen fault s
         go true t e =
             let (same, whole, p, off, quiet) = rw e at (told 0 64) in
             (same, record { on = eqb-true _ _ t; processor = p; off = off; smallest = λ q l. quiet q (omega arith) l }, whole)
         go false t e = never (cc)
 
-    row_at : (line : ℕ) → Decides a es line → levels_of a es ≡ At Fault.OtherLevels (whole_line line)
+    row_at : (line : ℕ) → Decides a es line → levels_of a es ≡ refused_at Fault.OtherLevels (whole_line line)
     unfolding levels_of
     row_at line d = rw (eq-eqb a.levels 1 d.on) (go (levels_from a es 0 64) (told 0 64))
       where
-        go : (s : Stop) → Told 0 64 s → s ≡ At Fault.OtherLevels (whole_line line)
-        go End quiet = absurd (quiet d.processor (omega arith) (off_low d.processor line d.off) line d.off)
-        go (At fault s) (same, whole, q, off, quiet) =
+        go : (s : Result Unit Refusal) → Told 0 64 s → s ≡ refused_at Fault.OtherLevels (whole_line line)
+        go (Ok tt) quiet = absurd (quiet d.processor (omega arith) (off_low d.processor line d.off) line d.off)
+        go (Err refusal) (same, whole, q, off, quiet) =
             let above : ¬ (d.processor < q) = λ l. quiet d.processor (omega arith) l line d.off in
-            let below : ¬ (q < d.processor) = λ l. d.smallest q l s.line off in
+            let below : ¬ (q < d.processor) = λ l. d.smallest q l refusal.site.line off in
             let z : q ≡ d.processor = omega arith in
-            let its_line : s.line ≡ line = one_line a es d.processor s.line line (rw z at off) d.off in
-            rw (same, site_is s line 0 its_line whole)
+            let its_line : refusal.site.line ≡ line = one_line a es d.processor refusal.site.line line (rw z at off) d.off in
+            rw (same, site_is refusal.site line 0 its_line whole)
 
     -- 17 at a line is where the row says so, and no other refusal comes of the levels
-    pub levels_row : (fault : Fault) (s : Site) → (levels_of a es ≡ At fault s) ↔ Seventeen fault s
+    pub levels_row : (fault : Fault) (s : Site) → (levels_of a es ≡ refused_at fault s) ↔ Seventeen fault s
     levels_row fault s = (at_row fault s, λ (same, d, whole). rw (same, site_is s s.line 0 refl whole) (row_at s.line d))
 
-    end_row : levels_of a es ≡ End → AtLevels a es
+    end_row : levels_of a es ≡ Ok tt → AtLevels a es
     unfolding levels_of
     end_row e on p n off =
         let quiet : Quiet 0 64 = rw (rw (eq-eqb a.levels 1 on) at e) at (told 0 64) in
         quiet p (omega arith) (off_low p n off) n off
 
-    row_end : AtLevels a es → levels_of a es ≡ End
+    row_end : AtLevels a es → levels_of a es ≡ Ok tt
     row_end h = go (levels_of a es) refl
       where
-        go : (s : Stop) → levels_of a es ≡ s → s ≡ End
-        go End e = refl
-        go (At fault s) e = let d = (at_row fault s e).1 in absurd (h d.on d.processor s.line d.off)
+        go : (s : Result Unit Refusal) → levels_of a es ≡ s → s ≡ Ok tt
+        go (Ok tt) e = refl
+        go (Err refusal) e = let d = (at_row refusal.fault refusal.site e).1 in absurd (h d.on d.processor refusal.site.line d.off)
 
     -- and where no processor calls for 17, nothing does
-    pub levels_none : (levels_of a es ≡ End) ↔ AtLevels a es
+    pub levels_none : (levels_of a es ≡ Ok tt) ↔ AtLevels a es
     levels_none = (end_row, row_end)

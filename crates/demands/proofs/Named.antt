@@ -1,7 +1,7 @@
 -- What each check looks at of the numbers that a caller names: where these are the same, so is what it comes to.
+use Rattle.std.specs.Prelude.{Option, Some, None}
 use Prim.Native.Nat.{ℕ, zero, suc}
 use mathlib.Core.Path.{◌≡◌, refl}
-use mathlib.Core.Option.{Option, none, some}
 use mathlib.Core.List.{List}
 use lib.ListN.{length}
 use Rattle.paper.specs.Levels.{last_mark, expected, agrees, off_at, levels_from, levels_of}
@@ -30,8 +30,8 @@ module _ (a b : Asked) (same : SameLevels a b) (es : List Entry) where
 
   same_agrees : (o : Option ℕ) → agrees a es o ≡ agrees b es o
   unfolding agrees
-  same_agrees none = refl
-  same_agrees (some k) = same_expected (entry_at es k).body.values
+  same_agrees None = refl
+  same_agrees (Some k) = same_expected (entry_at es k).body.values
 
   same_off : (p : ℕ) → off_at a es p ≡ off_at b es p
   unfolding off_at

@@ -6,7 +6,6 @@ use mathlib.Core.List.{[], ◌∷◌}
 use lib.ListN.{get_or}
 use Rattle.paper.specs.Numbers.{number_of}
 use Rattle.paper.specs.declared.Fault.{Fault}
-use Rattle.paper.specs.declared.Fault.TheVariants as Fault
 
 -- the fault with a number
 unfoldable fault_of : ℕ → Fault

@@ -1,9 +1,9 @@
 -- Two calls on one trace, of which the same is asked but for the table and the share: they read the same records, and with a table and a share
 -- that are nowhere lower no time is earlier and nothing impossible gets times.
+use Rattle.std.specs.Prelude.{Option, Some, None, Ok}
 use Prim.Native.Nat.{ℕ, ◌+◌, ◌*◌, ◌≤◌, ◌<◌}
 use native.Mathlib.Omega.{arith}
 use mathlib.Core.Path.{◌≡◌, refl, ap, ◌∙◌}
-use mathlib.Core.Option.{Option, none, some}
 use mathlib.Core.List.{List}
 use lib.ListN.{length, get_or}
 use lib.Signed.{◌≤ℤ◌}
@@ -18,7 +18,6 @@ use Rattle.paper.specs.declared.Choice.{Choice}
 use Rattle.paper.specs.declared.Entry.{Entry}
 use Rattle.paper.specs.declared.Role.{Role}
 use Rattle.paper.specs.declared.Role.TheVariants.{Neither, Send, Receive}
-use Rattle.paper.specs.declared.Stop.TheVariants.{End}
 use Rattle.reading.proofs.Along.{one_reading}
 use Rattle.rounds.specs.Compare.{Slower}
 use Rattle.rounds.proofs.Gaps.{gap_more}
@@ -43,8 +42,8 @@ module _ (from to : List ℕ) (higher : (k : ℕ) → get_or from k 0 ≤ get_or
   module _ (share more : ℕ) (up : share ≤ more) (es : List Entry) where
     gap_higher : (k : ℕ) (o : Option ℕ) → gap_from share es k o ≤ gap_from more es k o
     unfolding gap_from
-    gap_higher k none = omega arith
-    gap_higher k (some j) = gap_more share more (original es j) (original es k) up
+    gap_higher k None = omega arith
+    gap_higher k (Some j) = gap_more share more (original es j) (original es k) up
 
     slower : Slower (waits_of share from es) (waits_of more to es)
     unfolding waits_of
@@ -121,9 +120,9 @@ module _ (i j : Inputs) (one : OneTrace i j) where
     -- ---- no time is earlier
 
     -- both are read to their end, so it does not matter how many places each was lent
-    same_whole : (choice : Choice) → Read i choice → (reading j choice).stop ≡ End → entries j choice ≡ entries i choice
+    same_whole : (choice : Choice) → Read i choice → (reading j choice).stop ≡ Ok tt → entries j choice ≡ entries i choice
     same_whole choice r e =
-        let read : (read_of choice (most (given i)) j.trace).stop ≡ End = rw one.trace r.whole in
+        let read : (read_of choice (most (given i)) j.trace).stop ≡ Ok tt = rw one.trace r.whole in
         ap (λ (r : Reading). r.entries)
         (one_reading choice (most (given j)) (most (given i)) j.trace e read ∙ ap (read_of choice (most (given i))) one.trace)
 

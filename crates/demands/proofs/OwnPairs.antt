@@ -1,9 +1,9 @@
 -- The pairs that are compared are those of the record's own line, and all of them.
+use Rattle.std.specs.Prelude.{Option, Result, Some, None, Ok, Err}
 use Prim.Native.Nat.{ℕ, zero, suc, ◌+◌, ◌-◌, ◌<◌}
 use native.Mathlib.Omega.{arith}
 use mathlib.Core.Path.{◌≡◌, refl, ap}
 use mathlib.Core.Bool.{Bool, true, false, cond}
-use mathlib.Core.Option.{Option, none, some}
 use mathlib.Core.List.{List}
 use lib.ListN.{length}
 use lib.IntN.{ℤ}
@@ -23,11 +23,7 @@ use Rattle.paper.specs.declared.Line.TheVariants.{Refused, Listed}
 use Rattle.paper.specs.declared.Part.{Part}
 use Rattle.paper.specs.declared.Record.{Record}
 use Rattle.paper.specs.declared.Role.{Role}
-use Rattle.paper.specs.declared.Spot.TheVariants as Spot
 use Rattle.paper.specs.declared.Standing.{Standing}
-use Rattle.paper.specs.declared.Standing.TheVariants as Standing
-use Rattle.paper.specs.declared.Values.{Values}
-use Rattle.paper.specs.declared.Values.TheVariants as Values
 use Rattle.forms.proofs.Tests.{never}
 use Rattle.reading.proofs.Along.{Reads, ends, passes, lists, along}
 use Rattle.demands.specs.Steps.{entries, Read}
@@ -47,36 +43,36 @@ module _ (choice : Choice) (limit : ℕ) where
 -- ---- a listed line begins with the types of its record
 
 abbrev Begins : Head → Option (List ℕ) → Record → Type 0
-Begins h fields r = (h.kind ≡ r.kind) × (values : Data) × (values_in h.kind h.count fields ≡ Values.Good values)
+Begins h fields r = (h.kind ≡ r.kind) × (values : Data) × (values_in h.kind h.count fields ≡ Ok values)
 
 module _ (h : Head) (fields : Option (List ℕ)) (r : Record) where
-  role_begins : (p : ℕ) (values : Data) → values_in h.kind h.count fields ≡ Values.Good values → (o : Option Role)
+  role_begins : (p : ℕ) (values : Data) → values_in h.kind h.count fields ≡ Ok values → (o : Option Role)
       → with_role h p values o ≡ Listed r → Begins h fields r
   unfolding with_role
-  role_begins p values v none e = never (cc)
-  role_begins p values v (some role) e =
+  role_begins p values v None e = never (cc)
+  role_begins p values v (Some role) e =
       let same : record_of h p values role ≡ r = cc in
       (ap (λ (q : Record). q.kind) same, values, v)
 
-  data_begins : (p : ℕ) (part : Part) (v : Values) → values_in h.kind h.count fields ≡ v → with_data h p part v ≡ Listed r → Begins h fields r
+  data_begins : (p : ℕ) (part : Part) (v : Result Data ℕ) → values_in h.kind h.count fields ≡ v → with_data h p part v ≡ Listed r → Begins h fields r
   unfolding with_data
-  data_begins p part (Values.Bad k) v e = never (cc)
-  data_begins p part (Values.Good values) v e = role_begins p values v _ e
+  data_begins p part (Err k) v e = never (cc)
+  data_begins p part (Ok values) v e = role_begins p values v _ e
 
   listed_begins : listed_line h fields ≡ Listed r → Begins h fields r
   unfolding listed_line on_place
   listed_begins e = go (placed h.processor h.process) e
     where
       go : (o : Option ℕ) → on_place h fields o ≡ Listed r → Begins h fields r
-      go none e = never (cc)
-      go (some p) e = data_begins p (part_of h.kind h.event) _ refl e
+      go None e = never (cc)
+      go (Some p) e = data_begins p (part_of h.kind h.event) _ refl e
 
   -- an unlisted one is not listed
   unlisted_not : (choice : Choice) → ¬ (unlisted choice h fields ≡ Listed r)
   unfolding unlisted step_over
   unlisted_not choice e = go (good_end h.count fields) choice e
     where
-      go : (t : Bool) (c : Choice) → ¬ (cond t (step_over c h) (Refused Fault.Form (Spot.Field 6)) ≡ Listed r)
+      go : (t : Bool) (c : Choice) → ¬ (cond t (step_over c h) (Refused Fault.Form (Some 6)) ≡ Listed r)
       go true Strict e = never (cc)
       go true Lenient e = never (cc)
       go false c e = never (cc)
@@ -98,7 +94,7 @@ module _ (h : Head) (fields : Option (List ℕ)) (r : Record) where
 
 -- ---- and has the pairs that it states
 
-paired : (x : Pairs) (values : Data) → as_pairs x ≡ Values.Good values → (ps : List (ℤ × ℤ)) × (x ≡ pairs ps)
+paired : (x : Pairs) (values : Data) → as_pairs x ≡ Ok values → (ps : List (ℤ × ℤ)) × (x ≡ pairs ps)
 unfolding as_pairs
 paired (unpaired k) values e = never (cc)
 paired (pairs ps) values e = (ps, refl)

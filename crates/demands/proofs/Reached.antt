@@ -1,8 +1,8 @@
 -- How far a call reaches: what `reach` comes to where a check fails, and where all of them pass. Whatever a call ends with, it begins
 -- with these laws.
+use Rattle.std.specs.Prelude.{None}
 use Prim.Native.Nat.{ℕ}
 use mathlib.Core.Path.{◌≡◌, ap, ◌∙◌}
-use mathlib.Core.Option.{none}
 use mathlib.Core.List.{List}
 use lib.IntN.{ℤ}
 use Rattle.paper.specs.Columns.{nowhere}
@@ -13,7 +13,6 @@ use Rattle.paper.specs.Clock.{impossible, settled, settle}
 use Rattle.paper.specs.Answer.{Inputs, given, heard, Found, stopped, found, reach, on_choice, on_read, on_levels, on_statistics, on_matched, on_settled}
 use Rattle.paper.specs.declared.Choice.{Choice}
 use Rattle.paper.specs.declared.Fault.{Fault}
-use Rattle.paper.specs.declared.Fault.TheVariants as Fault
 use Rattle.paper.specs.declared.Site.{Site}
 use Rattle.demands.specs.Steps.{Chosen, RightSizes, LowLatencies, ShortTrace, Begun, reading, entries, Read, Levelled, Compared, Matched, waits}
 use Rattle.demands.proofs.Stops.{BadLine, BadLevels, BadStatistics, BadReceive}
@@ -24,7 +23,7 @@ abbrev pub found_by : Inputs → Choice → ℕ → List ℤ → Found
 found_by i choice rounds times = record { choice = choice; reading = reading i choice; rounds = rounds; times = times }
 
 module _ (i : Inputs) where
-  pub reach_choice : heard i.asked ≡ none → reach (given i) ≡ stopped Fault.BadChoice nowhere
+  pub reach_choice : heard i.asked ≡ None → reach (given i) ≡ stopped Fault.BadChoice nowhere
   unfolding reach on_choice
   reach_choice e = rw e
 

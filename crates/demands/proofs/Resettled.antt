@@ -1,10 +1,10 @@
 -- Times that are allowed, taken as the originals of the same records, are allowed again, and so they settle in no round: whatever share of
 -- their own gaps is to be kept, for they keep all of them.
+use Rattle.std.specs.Prelude.{Some}
 use Prim.Native.Nat.{ℕ, ◌≤◌, ◌<◌}
 use native.Mathlib.Omega.{arith}
 use mathlib.Core.Path.{◌≡◌, sym, ap, ◌∙◌}
 use mathlib.Core.List.{List}
-use mathlib.Core.Option.{some}
 use lib.ListN.{length}
 use lib.IntN.{ℤ}
 use lib.Signed.{≤ℤ_refl}
@@ -42,7 +42,7 @@ module _ (table : List ℕ) (es : List Entry) (ts : List ℤ) (n : length ts ≡
             rw (there j (omega arith), there k l)
             (allowed.order j k b (rw (← same_size fs es alike) l) (sym (same_place j) ∙ e ∙ same_place k));
         clock = λ j k l e.
-            let sent : send_of es k ≡ some j = sym (same_send fs es alike k) ∙ e in
+            let sent : send_of es k ≡ Some j = sym (same_send fs es alike k) ∙ e in
             let inside : j < length fs = rw (same_size fs es alike) (belongs es k j sent).within in
             rw (there j inside, there k l, same_place j, same_place k) (allowed.clock j k (rw (← same_size fs es alike) l) sent);
       }

@@ -1,10 +1,10 @@
 -- Every call reaches its times or is in a row of the table, and stops as its row says: but for 16, which is decided after `reach`.
+use Rattle.std.specs.Prelude.{Option, Result, Some, None, Ok, Err}
 use Prim.Native.Nat.{ℕ}
 use native.Mathlib.Omega.{arith}
 use mathlib.Core.Path.{◌≡◌, refl, sym, ap, ◌∙◌}
 use mathlib.Core.Logic.{◌⊎◌, inl, inr}
 use mathlib.Core.Bool.{Bool, true, false}
-use mathlib.Core.Option.{Option, none, some}
 use mathlib.Core.List.{List}
 use lib.ListN.{length}
 use lib.IntN.{ℤ}
@@ -18,10 +18,8 @@ use Rattle.paper.specs.Clock.{Settled, impossible, settled, settle}
 use Rattle.paper.specs.Answer.{Inputs, given, longest, heard, right_sizes, low_latencies, stopped, reach}
 use Rattle.paper.specs.declared.Choice.{Choice}
 use Rattle.paper.specs.declared.Fault.{Fault}
-use Rattle.paper.specs.declared.Fault.TheVariants as Fault
 use Rattle.paper.specs.declared.Site.{Site}
-use Rattle.paper.specs.declared.Stop.{Stop}
-use Rattle.paper.specs.declared.Stop.TheVariants.{End, At}
+use Rattle.paper.specs.declared.Refusal.{Refusal}
 use Rattle.rounds.proofs.Meaning.{impossible_iff}
 use Rattle.demands.specs.Steps.{Chosen, RightSizes, LowLatencies, Begun, reading, entries, Read, Levelled, Compared, Matched, waits}
 use Rattle.demands.specs.Rows.{BadForm, BadStamp, UnlistedStrict, NotHandled, BadPlace, NoMessage, NoSend, LongReceive}
@@ -54,25 +52,25 @@ module _ (i : Inputs) where
     on_times m impossible e = inr (Fault.NoTimes, nowhere, (choice, m, (impossible_iff (waits i choice) (waits_closed i.asked.share i.latencies (entries i choice))).0 e, refl))
     on_times m (settled rounds times) e = inl (record { choice = choice; rounds = rounds; times = times; matched = m; settles = e })
 
-    on_receives : Compared i choice → (s : Stop) → matched_of (entries i choice) ≡ s → Timed i ⊎ Row
-    on_receives c End e = on_times (record { compared = c; matches = e }) _ refl
-    on_receives c (At fault s) e =
-        inr (fault, s, when_receive i fault s (record { choice = choice; compared = c; calls = e }))
+    on_receives : Compared i choice → (s : Result Unit Refusal) → matched_of (entries i choice) ≡ s → Timed i ⊎ Row
+    on_receives c (Ok tt) e = on_times (record { compared = c; matches = e }) _ refl
+    on_receives c (Err refusal) e =
+        inr (refusal.fault, refusal.site, when_receive i refusal.fault refusal.site (record { choice = choice; compared = c; calls = e }))
 
-    on_statistics_lem : Levelled i choice → (s : Stop) → statistics_of i.asked i.trace (entries i choice) ≡ s → Timed i ⊎ Row
-    on_statistics_lem l End e = on_receives (record { levelled = l; agree = e }) _ refl
-    on_statistics_lem l (At fault s) e =
-        inr (fault, s, when_statistics i fault s (record { choice = choice; levelled = l; calls = e }))
+    on_statistics_lem : Levelled i choice → (s : Result Unit Refusal) → statistics_of i.asked i.trace (entries i choice) ≡ s → Timed i ⊎ Row
+    on_statistics_lem l (Ok tt) e = on_receives (record { levelled = l; agree = e }) _ refl
+    on_statistics_lem l (Err refusal) e =
+        inr (refusal.fault, refusal.site, when_statistics i refusal.fault refusal.site (record { choice = choice; levelled = l; calls = e }))
 
-    on_levels_lem : Read i choice → (s : Stop) → levels_of i.asked (entries i choice) ≡ s → Timed i ⊎ Row
-    on_levels_lem r End e = on_statistics_lem (record { read = r; levels = e }) _ refl
-    on_levels_lem r (At fault s) e =
-        inr (fault, s, when_levels i fault s (record { choice = choice; read = r; calls = e }))
+    on_levels_lem : Read i choice → (s : Result Unit Refusal) → levels_of i.asked (entries i choice) ≡ s → Timed i ⊎ Row
+    on_levels_lem r (Ok tt) e = on_statistics_lem (record { read = r; levels = e }) _ refl
+    on_levels_lem r (Err refusal) e =
+        inr (refusal.fault, refusal.site, when_levels i refusal.fault refusal.site (record { choice = choice; read = r; calls = e }))
 
-    on_lines : Begun i choice → (s : Stop) → (reading i choice).stop ≡ s → Timed i ⊎ Row
-    on_lines b End e = on_levels_lem (record { begun = b; whole = e }) _ refl
-    on_lines b (At fault s) e =
-        inr (fault, s, when_line i fault s (record { choice = choice; begun = b; stops = e }))
+    on_lines : Begun i choice → (s : Result Unit Refusal) → (reading i choice).stop ≡ s → Timed i ⊎ Row
+    on_lines b (Ok tt) e = on_levels_lem (record { begun = b; whole = e }) _ refl
+    on_lines b (Err refusal) e =
+        inr (refusal.fault, refusal.site, when_line i refusal.fault refusal.site (record { choice = choice; begun = b; stops = e }))
 
     on_size : Chosen i choice → RightSizes i → LowLatencies i → (b : Bool) → leb (length i.trace) longest ≡ b → Timed i ⊎ Row
     unfolding When
@@ -91,8 +89,8 @@ module _ (i : Inputs) where
 
   on_choice_lem : (o : Option Choice) → heard i.asked ≡ o → Timed i ⊎ Row
   unfolding When
-  on_choice_lem none e = inr (Fault.BadChoice, nowhere, (neither i.asked e, refl))
-  on_choice_lem (some choice) e = on_sizes choice e _ refl
+  on_choice_lem None e = inr (Fault.BadChoice, nowhere, (neither i.asked e, refl))
+  on_choice_lem (Some choice) e = on_sizes choice e _ refl
 
   pub reached : Timed i ⊎ Row
   reached = on_choice_lem _ refl

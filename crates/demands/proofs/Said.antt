@@ -1,12 +1,12 @@
 -- Rows 5 to 14, 17 and 19 as the table says them are where the reading stops, where the levels do, where the statistics and where the
 -- matching.
+use Rattle.std.specs.Prelude.{Option, Some}
 use Prim.Native.Nat.{ℕ, ◌<◌}
 use mathlib.Core.Path.{◌≡◌, refl, sym, ap, ◌∙◌}
 use mathlib.Core.Logic.{inl, inr}
-use mathlib.Core.Option.{some}
 use mathlib.Core.List.{List}
 use lib.ListN.{length}
-use Rattle.paper.specs.Columns.{column_of, column_in, in_line, whole_line}
+use Rattle.paper.specs.Columns.{column_of, column_in, in_line, whole_line, refused_at}
 use Rattle.paper.specs.Reading.{Lines, done, unended, ended, lines_of, read_of}
 use Rattle.paper.specs.Levels.{levels_of}
 use Rattle.paper.specs.Statistics.{statistics_of}
@@ -15,11 +15,7 @@ use Rattle.paper.specs.Answer.{Inputs, given, most}
 use Rattle.paper.specs.declared.Choice.{Choice}
 use Rattle.paper.specs.declared.Entry.{Entry}
 use Rattle.paper.specs.declared.Fault.{Fault}
-use Rattle.paper.specs.declared.Fault.TheVariants as Fault
 use Rattle.paper.specs.declared.Site.{Site}
-use Rattle.paper.specs.declared.Spot.{Spot}
-use Rattle.paper.specs.declared.Spot.TheVariants as Spot
-use Rattle.paper.specs.declared.Stop.TheVariants.{At}
 use Rattle.matching.specs.Belongs.{processor}
 use Rattle.matching.proofs.Calls.{call_at, FirstCall, first_call_at, at_first_call}
 use Rattle.demands.specs.Steps.{Begun, reading, entries, Read, Levelled, Compared}
@@ -54,14 +50,14 @@ module _ (i : Inputs) where
       record {
         choice = c.choice;
         begun = c.begun;
-        stops = stops_there c.choice (most (given i)) (lines_of i.trace) c.good bad ∙ ap (At fault) (sym (site_is s s.line column refl e));
+        stops = stops_there c.choice (most (given i)) (lines_of i.trace) c.good bad ∙ ap (refused_at fault) (sym (site_is s s.line column refl e));
       }
 
   pub end_stops : (s : Site) → NoEnd i s → BadLine i Fault.Form s
   end_stops s e = bad_stops s (unended e.line) e.comes Fault.Form _ no_end e.column
 
   pub field_stops : (s : Site) (fault : Fault) (bad : Choice → List ℕ → ℕ → Type 0)
-      → ((choice : Choice) (l : List ℕ) (k : ℕ) → bad choice l k → RowIn choice l fault (Spot.Field k)) → InField i s bad → BadLine i fault s
+      → ((choice : Choice) (l : List ℕ) (k : ℕ) → bad choice l k → RowIn choice l fault (Some k)) → InField i s bad → BadLine i fault s
   unfolding column_in
   field_stops s fault bad means f =
       bad_stops s _ f.at.comes fault _ (in_line_lem (means f.at.comes.choice f.at.line f.field f.is)) f.column
@@ -125,7 +121,7 @@ module _ (i : Inputs) where
         agree = all_statistics n c ∙ (statistics_none i.asked i.trace c.before).1 statistics;
       }
 
-  pub call_stops : (s : Site) (fault : Fault) (calls : List Entry → ℕ → Type 0) → ((es : List Entry) (k : ℕ) → calls es k → call_at es k ≡ some fault)
+  pub call_stops : (s : Site) (fault : Fault) (calls : List Entry → ℕ → Type 0) → ((es : List Entry) (k : ℕ) → calls es k → call_at es k ≡ Some fault)
       → FirstReceive i s.line calls → s.column ≡ 0 → BadReceive i fault s
   call_stops s fault calls means f e =
       let es = f.comes.before in
@@ -135,7 +131,7 @@ module _ (i : Inputs) where
         choice = f.comes.choice;
         compared = all_compared f.end f.comes f.levels f.statistics;
         calls = ap matched_of (all_entries f.end f.comes) ∙ first_call_at es f.place fault call
-            ∙ ap (At fault) (sym (site_is s (entry_at es f.place).line 0 (sym f.its_line) e));
+            ∙ ap (refused_at fault) (sym (site_is s (entry_at es f.place).line 0 (sym f.its_line) e));
       }
 
   -- ---- to the table
@@ -144,7 +140,7 @@ module _ (i : Inputs) where
       → InField i (in_line n (column_of k at.line)) bad
   in_field n at k bad r = record { at = at; field = k; is = r; column = refl }
 
-  when_row : (n : ℕ) (at : AtLine i n) {fault : Fault} {spot : Spot} → RowIn at.comes.choice at.line fault spot
+  when_row : (n : ℕ) (at : AtLine i n) {fault : Fault} {spot : Option ℕ} → RowIn at.comes.choice at.line fault spot
       → When i fault (in_line n (column_in at.line spot))
   unfolding When column_in
   when_row n at (form_row {k = k} r) = inr (in_field n at k (λ choice. BadForm) r)

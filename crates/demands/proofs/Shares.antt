@@ -1,10 +1,10 @@
 -- The ninth change request: what another share changes of a call, and what it does not.
+use Rattle.std.specs.Prelude.{Option, Some, None}
 use Prim.Native.Nat.{ℕ, ◌≤◌, ◌<◌}
 use native.Mathlib.Omega.{arith}
 use native.Mathlib.Decide.{ℕ_discrete}
 use mathlib.Core.Path.{◌≡◌, refl, sym, ap, ◌∙◌, fun_ext}
 use mathlib.Core.Logic.{◌↔◌}
-use mathlib.Core.Option.{Option, none, some}
 use mathlib.Core.List.{List}
 use lib.ListN.{length}
 use lib.IntN.{ℤ, pos, ◌+ℤ◌}
@@ -51,8 +51,8 @@ none_kept table es x = (λ k. k.allowed, of)
 
 gap_today : (es : List Entry) (i : ℕ) (o : Option ℕ) → gap_from 0 es i o ≡ 0
 unfolding gap_from
-gap_today es i none = refl
-gap_today es i (some j) = gap_none (original es j) (original es i)
+gap_today es i None = refl
+gap_today es i (Some j) = gap_none (original es j) (original es i)
 
 -- the same waits with these gaps
 abbrev with_gaps : Waits → (ℕ → ℕ) → Waits

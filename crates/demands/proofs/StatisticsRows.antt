@@ -1,4 +1,5 @@
 -- Row 19: what the comparison of the statistics with the records comes to is what the row says of them.
+use Rattle.std.specs.Prelude.{Option, Result, Some, None, Ok, Err}
 use Prim.Native.Nat.{ℕ, zero, suc, ◌+◌, ◌≤◌, ◌<◌}
 use native.Mathlib.Omega.{arith}
 use native.Mathlib.Decide.{dec_lt}
@@ -6,7 +7,6 @@ use native.Mathlib.Numerals.{add-one}
 use mathlib.Core.Path.{◌≡◌, refl, sym, ◌∙◌}
 use mathlib.Core.Logic.{◌⊎◌, inl, inr, ◌↔◌}
 use mathlib.Core.Bool.{Bool, true, false, cond, ◌&&◌, ◌||◌, not}
-use mathlib.Core.Option.{Option, none, some}
 use mathlib.Core.List.{List, [], ◌∷◌}
 use lib.ListN.{length, take, drop, get_or, drop_of_length-le}
 use lib.Seq.{drop-cons}
@@ -14,7 +14,7 @@ use lib.IntN.{ℤ, pos, nat_abs, ◌-ℤ◌}
 use lib.Dec.{leb, eqb}
 use borrow.Author.Tests.{eqb-true, eq-eqb, leb-false, lt-leb}
 use Rattle.paper.specs.Tests.{eq_z, minus, one_of}
-use Rattle.paper.specs.Columns.{whole_line}
+use Rattle.paper.specs.Columns.{whole_line, refused_at}
 use Rattle.paper.specs.Events.{is_statistics, standing_of}
 use Rattle.paper.specs.Matching.{entry_at}
 use Rattle.paper.specs.Reading.{lines_of}
@@ -22,12 +22,9 @@ use Rattle.paper.specs.Statistics.{is_of, marks_of, entries_of, exits_of, spent,
 use Rattle.paper.specs.declared.Asked.{Asked}
 use Rattle.paper.specs.declared.Entry.{Entry}
 use Rattle.paper.specs.declared.Fault.{Fault}
-use Rattle.paper.specs.declared.Fault.TheVariants as Fault
 use Rattle.paper.specs.declared.Site.{Site}
 use Rattle.paper.specs.declared.Standing.{Standing}
-use Rattle.paper.specs.declared.Standing.TheVariants as Standing
-use Rattle.paper.specs.declared.Stop.{Stop}
-use Rattle.paper.specs.declared.Stop.TheVariants.{End, At}
+use Rattle.paper.specs.declared.Refusal.{Refusal}
 use Rattle.forms.proofs.Tests.{both, never}
 use Rattle.demands.specs.Statistics.{VolumeOver, of_sends, of_receives, CountDiffers, TimeDiffers, VolumeDiffers, ToldDiffers, by_time, by_count, by_volume, PairDiffers, pairs_at, LineDiffers, FirstDifference, NoDifference}
 use Rattle.demands.proofs.Tests.{Tells, untold, same_tells, both_tell, not_tells, in_words}
@@ -36,18 +33,18 @@ use Rattle.demands.proofs.Stops.{site_is}
 -- ---- what is told of an event
 
 -- the record type of a volume
-over_kind : (event kind : ℤ) → volume_kind event ≡ some kind → VolumeOver event kind
+over_kind : (event kind : ℤ) → volume_kind event ≡ Some kind → VolumeOver event kind
 unfolding volume_kind one_of
 over_kind event kind e = go (eq_z event (minus 21)) refl (eq_z event (minus 51)) refl (eq_z event (minus 52)) refl e
   where
     go : (t : Bool) → eq_z event (minus 21) ≡ t → (u : Bool) → eq_z event (minus 51) ≡ u → (v : Bool) → eq_z event (minus 52) ≡ v
-        → cond t (some (minus 3)) (cond (u || (v || false)) (some (minus 4)) none) ≡ some kind → VolumeOver event kind
+        → cond t (Some (minus 3)) (cond (u || (v || false)) (Some (minus 4)) None) ≡ Some kind → VolumeOver event kind
     go true t u q v w e = let z : minus 3 ≡ kind = cc in rw (← z) (of_sends ((same_tells event (minus 21)).holds t))
     go false t true q v w e = let z : minus 4 ≡ kind = cc in rw (← z) (of_receives (inl ((same_tells event (minus 51)).holds q)))
     go false t false q true w e = let z : minus 4 ≡ kind = cc in rw (← z) (of_receives (inr ((same_tells event (minus 52)).holds w)))
     go false t false q false w e = never (cc)
 
-kind_over : {event kind : ℤ} → VolumeOver event kind → volume_kind event ≡ some kind
+kind_over : {event kind : ℤ} → VolumeOver event kind → volume_kind event ≡ Some kind
 unfolding volume_kind one_of
 kind_over (of_sends e) = rw e
 kind_over (of_receives (inl e)) = rw e
@@ -82,8 +79,8 @@ module _ (es : List Entry) (p : ℕ) (event told : ℤ) where
   volume_tells = record { holds = λ e. let (m, v) = both _ _ e in go ((not_tells (same_tells told (minus 1))).holds m) _ refl v; told = of }
     where
       go : ¬ (told ≡ minus 1) → (o : Option ℤ) → volume_kind event ≡ o → on_volume es p event told o ≡ true → VolumeDiffers es p event told
-      go m none q e = never (cc)
-      go m (some kind) q e =
+      go m None q e = never (cc)
+      go m (Some kind) q e =
           record {
             measured = m;
             kind = kind;
@@ -209,7 +206,7 @@ module _ (trace : List ℕ) (es : List Entry) where
   unfolding compared_from entry_at
   compared_step i h = rw (drop-cons es i (entry_at [] 0), add-one i)
 
-  compared_end : (i : ℕ) → length es ≤ i → compared_from (lines_of trace) es i (drop i es) ≡ End
+  compared_end : (i : ℕ) → length es ≤ i → compared_from (lines_of trace) es i (drop i es) ≡ Ok tt
   unfolding compared_from
   compared_end i h = rw (drop_of_length-le es h)
 
@@ -224,19 +221,20 @@ module _ (trace : List ℕ) (es : List Entry) where
       go (yes h) = quiet k (omega arith) m
       go (no h) = let z : k ≡ i = omega arith in rw z (untold (line_tells i) e)
 
-  abbrev Told : ℕ → Stop → Type 0
-  Told i End = Quiet i (length es)
-  Told i (At fault s) =
-      (fault ≡ Fault.OtherStatistics) × (s.column ≡ 0) × (k : ℕ) × (k < length es) × ((entry_at es k).line ≡ s.line) × LineDiffers trace es k × Quiet i k
+  abbrev Told : ℕ → Result Unit Refusal → Type 0
+  Told i (Ok tt) = Quiet i (length es)
+  Told i (Err refusal) =
+      (refusal.fault ≡ Fault.OtherStatistics) × (refusal.site.column ≡ 0)
+      × (k : ℕ) × (k < length es) × ((entry_at es k).line ≡ refusal.site.line) × LineDiffers trace es k × Quiet i k
 
   told : (n i : ℕ) → i + n ≡ length es → Told i (compared_from (lines_of trace) es i (drop i es))
   told zero i e = rw (compared_end i (omega arith)) (λ k l m. absurd (omega arith))
   told (suc n) i e = rw (compared_step i (omega arith)) (go (differs_at i) refl _ (told n (i + 1) (omega arith)))
     where
-      go : (t : Bool) → differs_at i ≡ t → (s : Stop) → Told (i + 1) s → Told i (on_differs t (entry_at es i).line s)
+      go : (t : Bool) → differs_at i ≡ t → (s : Result Unit Refusal) → Told (i + 1) s → Told i (on_differs t (entry_at es i).line s)
       go true t s f = (refl, refl, i, omega arith, refl, line_holds i t, λ k l m. absurd (omega arith))
-      go false t End f = λ k l m. quiet_first i (length es) t (λ j a b. f j (omega arith) b) k l m
-      go false t (At fault s) (same, whole, k, inside, line, d, quiet) =
+      go false t (Ok tt) f = λ k l m. quiet_first i (length es) t (λ j a b. f j (omega arith) b) k l m
+      go false t (Err refusal) (same, whole, k, inside, line, d, quiet) =
           (same, whole, k, inside, line, d, λ j a b. quiet_first i k t (λ h x y. quiet h (omega arith) y) j a b)
 
 module _ (a : Asked) (trace : List ℕ) (es : List Entry) where
@@ -244,11 +242,11 @@ module _ (a : Asked) (trace : List ℕ) (es : List Entry) where
   abbrev Nineteen : Fault → Site → Type 0
   Nineteen fault s = (fault ≡ Fault.OtherStatistics) × FirstDifference a trace es s.line × (s.column ≡ 0)
 
-  at_row : (fault : Fault) (s : Site) → statistics_of a trace es ≡ At fault s → Nineteen fault s
+  at_row : (fault : Fault) (s : Site) → statistics_of a trace es ≡ refused_at fault s → Nineteen fault s
   unfolding statistics_of
   at_row fault s e = go (eqb a.statistics 1) refl e
     where
-      go : (t : Bool) → eqb a.statistics 1 ≡ t → cond t (compared_from (lines_of trace) es 0 es) End ≡ At fault s → Nineteen fault s
+      go : (t : Bool) → eqb a.statistics 1 ≡ t → cond t (compared_from (lines_of trace) es 0 es) (Ok tt) ≡ refused_at fault s → Nineteen fault s
       go true t e =
           let (same, whole, k, inside, line, d, quiet) = rw e at (told trace es (length es) 0 (omega arith)) in (
             same,
@@ -257,36 +255,36 @@ module _ (a : Asked) (trace : List ℕ) (es : List Entry) where
           )
       go false t e = never (cc)
 
-  row_at : (line : ℕ) → FirstDifference a trace es line → statistics_of a trace es ≡ At Fault.OtherStatistics (whole_line line)
+  row_at : (line : ℕ) → FirstDifference a trace es line → statistics_of a trace es ≡ refused_at Fault.OtherStatistics (whole_line line)
   unfolding statistics_of
   row_at line d = rw (eq-eqb a.statistics 1 d.on) (go (compared_from (lines_of trace) es 0 es) (told trace es (length es) 0 (omega arith)))
     where
-      go : (s : Stop) → Told trace es 0 s → s ≡ At Fault.OtherStatistics (whole_line line)
-      go End quiet = absurd (quiet d.place (omega arith) d.within d.is)
-      go (At fault s) (same, whole, k, inside, there, f, quiet) =
+      go : (s : Result Unit Refusal) → Told trace es 0 s → s ≡ refused_at Fault.OtherStatistics (whole_line line)
+      go (Ok tt) quiet = absurd (quiet d.place (omega arith) d.within d.is)
+      go (Err refusal) (same, whole, k, inside, there, f, quiet) =
           let above : ¬ (d.place < k) = λ l. quiet d.place (omega arith) l d.is in
           let below : ¬ (k < d.place) = λ l. d.first k l f in
           let z : k ≡ d.place = omega arith in
-          let its_line : s.line ≡ line = sym (rw z at there) ∙ d.its_line in
-          rw (same, site_is s line 0 its_line whole)
+          let its_line : refusal.site.line ≡ line = sym (rw z at there) ∙ d.its_line in
+          rw (same, site_is refusal.site line 0 its_line whole)
 
   -- 19 at a line is where the row says so, and no other refusal comes of the statistics
-  pub statistics_row : (fault : Fault) (s : Site) → (statistics_of a trace es ≡ At fault s) ↔ Nineteen fault s
+  pub statistics_row : (fault : Fault) (s : Site) → (statistics_of a trace es ≡ refused_at fault s) ↔ Nineteen fault s
   statistics_row fault s = (at_row fault s, λ (same, d, whole). rw (same, site_is s s.line 0 refl whole) (row_at s.line d))
 
-  end_row : statistics_of a trace es ≡ End → NoDifference a trace es
+  end_row : statistics_of a trace es ≡ Ok tt → NoDifference a trace es
   unfolding statistics_of
   end_row e on k l =
       let quiet : Quiet trace es 0 (length es) = rw (rw (eq-eqb a.statistics 1 on) at e) at (told trace es (length es) 0 (omega arith)) in
       quiet k (omega arith) l
 
-  row_end : NoDifference a trace es → statistics_of a trace es ≡ End
+  row_end : NoDifference a trace es → statistics_of a trace es ≡ Ok tt
   row_end h = go (statistics_of a trace es) refl
     where
-      go : (s : Stop) → statistics_of a trace es ≡ s → s ≡ End
-      go End e = refl
-      go (At fault s) e = let d = (at_row fault s e).1 in absurd (h d.on d.place d.within d.is)
+      go : (s : Result Unit Refusal) → statistics_of a trace es ≡ s → s ≡ Ok tt
+      go (Ok tt) e = refl
+      go (Err refusal) e = let d = (at_row refusal.fault refusal.site e).1 in absurd (h d.on d.place d.within d.is)
 
   -- and where no statistics line differs, nothing calls for 19
-  pub statistics_none : (statistics_of a trace es ≡ End) ↔ NoDifference a trace es
+  pub statistics_none : (statistics_of a trace es ≡ Ok tt) ↔ NoDifference a trace es
   statistics_none = (end_row, row_end)

@@ -1,10 +1,10 @@
 -- "A further number .. switches the comparison", and nothing but that: what a call reaches with it on is 19 or what it reaches with it off.
+use Rattle.std.specs.Prelude.{Option, Result, Some, None, Ok, Err}
 use Prim.Native.Nat.{ℕ, ◌≤◌}
 use native.Mathlib.Omega.{arith}
 use mathlib.Core.Path.{◌≡◌, refl, ap, ◌∙◌}
 use mathlib.Core.Logic.{◌⊎◌, inl, inr}
 use mathlib.Core.Bool.{Bool, true, false, cond, ◌&&◌}
-use mathlib.Core.Option.{Option, none, some}
 use mathlib.Core.List.{List}
 use lib.ListN.{length}
 use lib.Dec.{leb}
@@ -19,10 +19,8 @@ use Rattle.paper.specs.declared.Asked.{Asked}
 use Rattle.paper.specs.declared.Choice.{Choice}
 use Rattle.paper.specs.declared.Entry.{Entry}
 use Rattle.paper.specs.declared.Fault.{Fault}
-use Rattle.paper.specs.declared.Fault.TheVariants as Fault
 use Rattle.paper.specs.declared.Site.{Site}
-use Rattle.paper.specs.declared.Stop.{Stop}
-use Rattle.paper.specs.declared.Stop.TheVariants.{End, At}
+use Rattle.paper.specs.declared.Refusal.{Refusal}
 use Rattle.forms.proofs.Tests.{never}
 use Rattle.demands.specs.Parts.{number, site}
 use Rattle.demands.specs.Switched.{uncompared, switched_off, Switched}
@@ -38,17 +36,17 @@ unfolding heard
 heard_off a low = rw (le-leb a.statistics 1 low)
 
 -- a choice is heard where the switch is 0 or 1
-pub heard_low : (a : Asked) {choice : Choice} → heard a ≡ some choice → a.statistics ≤ 1
+pub heard_low : (a : Asked) {choice : Choice} → heard a ≡ Some choice → a.statistics ≤ 1
 unfolding heard
 heard_low a {choice} e = go (leb a.levels 1) (leb a.statistics 1) refl e
   where
-    go : (t u : Bool) → leb a.statistics 1 ≡ u → cond (t && u) (choice_of a.choice) none ≡ some choice → a.statistics ≤ 1
+    go : (t u : Bool) → leb a.statistics 1 ≡ u → cond (t && u) (choice_of a.choice) None ≡ Some choice → a.statistics ≤ 1
     go t true u e = leb-true _ _ u
     go true false u e = never (cc)
     go false false u e = never (cc)
 
 -- with it off nothing is compared
-pub none_compared : (a : Asked) (trace : List ℕ) (es : List Entry) → statistics_of (uncompared a) trace es ≡ End
+pub none_compared : (a : Asked) (trace : List ℕ) (es : List Entry) → statistics_of (uncompared a) trace es ≡ Ok tt
 unfolding statistics_of
 none_compared a trace es = refl
 
@@ -65,27 +63,27 @@ abbrev NineteenOr : Reached → Reached → Type 0
 NineteenOr on off = ((s : Site) × (on ≡ stopped Fault.OtherStatistics s)) ⊎ (on ≡ off)
 
 module _ (g : Given) (choice : Choice) (r : Reading) where
-  matched_off : (s : Stop) → on_matched g choice r s ≡ on_matched (off_given g) choice r s
+  matched_off : (s : Result Unit Refusal) → on_matched g choice r s ≡ on_matched (off_given g) choice r s
   unfolding on_matched
-  matched_off End = refl
-  matched_off (At fault site) = refl
+  matched_off (Ok tt) = refl
+  matched_off (Err refusal) = refl
 
-  statistics_off : (s : Stop) → statistics_of g.asked g.trace r.entries ≡ s
+  statistics_off : (s : Result Unit Refusal) → statistics_of g.asked g.trace r.entries ≡ s
       → NineteenOr (on_statistics g choice r s) (on_statistics (off_given g) choice r (statistics_of (uncompared g.asked) g.trace r.entries))
   unfolding on_statistics statistics_of
-  statistics_off End e = inr (matched_off _)
-  statistics_off (At fault site) e =
-      inl (site, ap (λ (f : Fault). stopped f site) ((statistics_row g.asked g.trace r.entries fault site).0 e).0)
+  statistics_off (Ok tt) e = inr (matched_off _)
+  statistics_off (Err refusal) e =
+      inl (refusal.site, ap (λ (f : Fault). stopped f refusal.site) ((statistics_row g.asked g.trace r.entries refusal.fault refusal.site).0 e).0)
 
-  on_levels_off : (s : Stop) → NineteenOr (on_levels g choice r s) (on_levels (off_given g) choice r s)
+  on_levels_off : (s : Result Unit Refusal) → NineteenOr (on_levels g choice r s) (on_levels (off_given g) choice r s)
   unfolding on_levels
-  on_levels_off End = statistics_off _ refl
-  on_levels_off (At fault site) = inr refl
+  on_levels_off (Ok tt) = statistics_off _ refl
+  on_levels_off (Err refusal) = inr refl
 
-  read_off : (s : Stop) → NineteenOr (on_read g choice r s) (on_read (off_given g) choice r s)
+  read_off : (s : Result Unit Refusal) → NineteenOr (on_read g choice r s) (on_read (off_given g) choice r s)
   unfolding on_read
-  read_off End = rw (levels_off g.asked r.entries) (on_levels_off _)
-  read_off (At fault site) = inr refl
+  read_off (Ok tt) = rw (levels_off g.asked r.entries) (on_levels_off _)
+  read_off (Err refusal) = inr refl
 
 -- the earlier checks are the same, whatever comes behind them
 behind : (b : Bool) (x y bad : Reached) → NineteenOr x y → NineteenOr (cond b x bad) (cond b y bad)
@@ -94,8 +92,8 @@ behind false x y bad n = inr refl
 
 choice_off : (g : Given) (o : Option Choice) → NineteenOr (on_choice g o) (on_choice (off_given g) o)
 unfolding on_choice right_sizes most
-choice_off g none = inr refl
-choice_off g (some choice) =
+choice_off g None = inr refl
+choice_off g (Some choice) =
     let reading = read_of choice (most g) g.trace in
     behind (right_sizes g) _ _ (stopped Fault.WrongLength nowhere)
     (behind (low_latencies g.latencies) _ _ (stopped Fault.HighLatency nowhere)

@@ -1,10 +1,10 @@
 -- Tests and the plain facts that they tell: of signed numbers, of texts, and those of 1 to 4.
+use Rattle.std.specs.Prelude.{Option, None}
 use Prim.Native.Nat.{ℕ}
 use native.Mathlib.Omega.{arith}
 use mathlib.Core.Path.{◌≡◌, refl}
 use mathlib.Core.Bool.{Bool, true, false, cond, ◌&&◌, not}
 use mathlib.Core.Logic.{inl, inr}
-use mathlib.Core.Option.{Option, none}
 use mathlib.Core.List.{List}
 use lib.ListN.{length}
 use lib.IntN.{ℤ}
@@ -68,25 +68,25 @@ pub short_tells : (i : Inputs) → Tells (leb (length i.trace) longest) (ShortTr
 short_tells i = record { holds = leb-true _ _; told = le-leb _ _ }
 
 -- 1
-nothing_either_way : (t : Bool) → ◌≡◌ {A = Option Choice} (cond t none none) none
+nothing_either_way : (t : Bool) → ◌≡◌ {A = Option Choice} (cond t None None) None
 nothing_either_way true = refl
 nothing_either_way false = refl
 
-pub unchosen : (a : Asked) → Unheard a → heard a ≡ none
+pub unchosen : (a : Asked) → Unheard a → heard a ≡ None
 unfolding heard choice_of
 unchosen a (inl (one, two)) = rw (ne_eqb a.choice 1 one, ne_eqb a.choice 2 two) (nothing_either_way (leb a.levels 1 && leb a.statistics 1))
 unchosen a (inr (inl (off, on))) = rw (lt-leb a.levels 1 (omega arith))
 unchosen a (inr (inr (off, on))) = rw (lt-leb a.statistics 1 (omega arith)) (go (leb a.levels 1))
   where
-    go : (t : Bool) → cond (t && false) (choice_of a.choice) none ≡ none
+    go : (t : Bool) → cond (t && false) (choice_of a.choice) None ≡ None
     go true = refl
     go false = refl
 
-pub neither : (a : Asked) → heard a ≡ none → Unheard a
+pub neither : (a : Asked) → heard a ≡ None → Unheard a
 unfolding heard choice_of
 neither a e = go (leb a.levels 1) refl (leb a.statistics 1) refl e
   where
-    go : (t : Bool) → leb a.levels 1 ≡ t → (u : Bool) → leb a.statistics 1 ≡ u → cond (t && u) (choice_of a.choice) none ≡ none → Unheard a
+    go : (t : Bool) → leb a.levels 1 ≡ t → (u : Bool) → leb a.statistics 1 ≡ u → cond (t && u) (choice_of a.choice) None ≡ None → Unheard a
     go true t true u e = inl (λ p. let h = rw p at e in never (cc), λ p. let h = rw p at e in never (cc))
     go true t false u e = let more = leb-false a.statistics 1 u in inr (inr (λ p. omega arith, λ p. omega arith))
     go false t u w e = let more = leb-false a.levels 1 t in inr (inl (λ p. omega arith, λ p. omega arith))

@@ -1,9 +1,9 @@
 -- What an accepted call leaves in the lent times: the times that settle its waits.
+use Rattle.std.proofs.lemmas.Option.{same_Some}
 use Prim.Native.Nat.{ℕ, ◌<◌}
 use native.Mathlib.Omega.{arith}
 use mathlib.Core.Path.{◌≡◌, sym, ap, ◌∙◌}
 use mathlib.Core.List.{◌++◌}
-use mathlib.Core.Option.{some}
 use lib.ListN.{length, drop, get_or-append}
 use lib.IntN.{pos}
 use Rattle.paper.specs.Clock.{time_at}
@@ -26,7 +26,7 @@ closed i choice = waits_closed i.asked.share i.latencies (entries i choice)
 
 -- a call names one choice
 pub one_choice : (i : Inputs) (a b : Choice) → Chosen i a → Chosen i b → a ≡ b
-one_choice i a b p q = let same : some a ≡ some b = sym p ∙ q in cc
+one_choice i a b p q = same_Some a b (sym p ∙ q)
 
 module _ (i : Inputs) (a : Accepted i) where
   pub listed_is : listed i ≡ length (entries i a.choice)

@@ -1,9 +1,9 @@
 -- Where no message matched, no time moves: the originals are in order as they are read.
+use Rattle.std.specs.Prelude.{Some}
 use Prim.Native.Nat.{ℕ, ◌<◌}
 use native.Mathlib.Omega.{arith}
 use mathlib.Core.Path.{◌≡◌}
 use mathlib.Core.Bool.{true}
-use mathlib.Core.Option.{some}
 use mathlib.Core.List.{List}
 use lib.ListN.{length}
 use lib.IntN.{ℤ, pos, negsuc}
@@ -26,7 +26,7 @@ range_limit : (t : ℤ) → InRange t → t ≤ℤ limit
 range_limit (pos n) h = le_z_yes (le→leb n 999999999999999 h)
 range_limit (negsuc n) h = le_z_yes tt
 
-no_receive : (es : List Entry) → matched_count es ≡ 0 → (j k : ℕ) → k < length es → send_of es k ≡ some j → ⊥
+no_receive : (es : List Entry) → matched_count es ≡ 0 → (j k : ℕ) → k < length es → send_of es k ≡ Some j → ⊥
 unfolding matched_count is_receive count
 no_receive es none-matched j k l e =
     let is : is_receive (role_at es k) ≡ true = rw (belongs es k j e).receives in

@@ -1,6 +1,5 @@
 -- "line by line, the first bad line deciding": how far a call comes, with every line before there good.
-use Rattle.std.specs.Prelude.{ℕ, ◌+◌, ◌<◌, ◌≡◌, List, [], ◌∷◌, ◌++◌, length, ◌<ℤ◌}
-use Rattle.std.proofs.Math.Option.{some}
+use Rattle.std.specs.Prelude.{ℕ, ◌+◌, ◌<◌, ◌≡◌, List, [], ◌∷◌, ◌++◌, length, ◌<ℤ◌, Some}
 use Rattle.paper.specs.Line.{line_of}
 use Rattle.paper.specs.Reading.{Lines, ended, lines_of}
 use Rattle.paper.specs.Matching.{last_on}
@@ -13,7 +12,7 @@ use Rattle.demands.specs.Steps.{Begun, original}
 
 -- "time below the last listed time of the same processor", for a record after these
 abbrev pub Below : List Entry → Record → Type 0
-Below es r = (k : ℕ) × (last_on es r.processor (length es) ≡ some k) × (r.time <ℤ original es k)
+Below es r = (k : ℕ) × (last_on es r.processor (length es) ≡ Some k) × (r.time <ℤ original es k)
 
 -- each of these lines before line n is good: passed over, or listed without calling for 11 or 12. Then the records listed there, and the
 -- lines from n on

@@ -1,8 +1,7 @@
 -- Demand 2: "Records, sends and receives are read as the PICL report and our rules define, and each receive is matched to one send of
 -- its own. Writing the corrected trace changes timestamps only; reading it again under that table and choice, if it is within the size
 -- limit, gives those times and moves none."
-use Rattle.std.specs.Prelude.{ℕ, ◌≤◌, ◌<◌, ◌≡◌, ◌⊎◌, ◌↔◌, true, List, [], ◌∷◌, ◌++◌, length, ℤ}
-use Rattle.std.proofs.Math.Option.{some}
+use Rattle.std.specs.Prelude.{ℕ, ◌≤◌, ◌<◌, ◌≡◌, ◌⊎◌, ◌↔◌, true, List, [], ◌∷◌, ◌++◌, length, ℤ, Some}
 use Rattle.paper.specs.Forms.{time_shown}
 use Rattle.paper.specs.Line.{line_of}
 use Rattle.paper.specs.Reading.{Lines, done, ended, lines_of}
@@ -26,7 +25,7 @@ use Rattle.demands.specs.Accepted.{Moved, AcceptedAnswer}
 -- "each receive is matched to one send", which it belongs to; the received length is at most the sent one
 pub record Sent (es : List Entry) (k : ℕ) : Type 0 where
   pub send : ℕ
-  pub is : send_of es k ≡ some send
+  pub is : send_of es k ≡ Some send
   pub belongs : Belongs es k send
   pub length : belongs.received.length ≤ belongs.sent.length
 
@@ -83,7 +82,7 @@ pub record Demand2 : Type 0 where
       → (m : Message) → role (entries i choice) k ≡ Receive m → Sent (entries i choice) k
   -- "of its own"
   pub own : (i : Inputs) (choice : Choice) → (j k l : ℕ) → k < length (entries i choice) → l < length (entries i choice)
-      → send_of (entries i choice) k ≡ some j → send_of (entries i choice) l ≡ some j → k ≡ l
+      → send_of (entries i choice) k ≡ Some j → send_of (entries i choice) l ≡ Some j → k ≡ l
   -- "Writing the corrected trace changes timestamps only"
   pub stamps : (i : Inputs) (choice : Choice) → Chosen i choice → number i ≡ 0 → i.wanted ≡ true
       → SameButStamps choice (lines_of i.trace) (corrected i) (lines_of (written_trace i))

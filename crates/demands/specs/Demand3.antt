@@ -7,8 +7,7 @@
 -- The ninth change request: "a record must now lie after its predecessor by at least that many thousandths of their original gap, rounded
 -- down. .. The least sound set, the rounds, refusal 15, the chain of request 7 and all of demand 3 read this new condition, at one share
 -- held fixed."
-use Rattle.std.specs.Prelude.{ℕ, ◌+◌, ◌*◌, ◌≤◌, ◌<◌, ◌≡◌, ◌⊎◌, ◌↔◌, List, ◌++◌, length, get_or, ℤ, pos, ◌+ℤ◌, ◌≤ℤ◌}
-use Rattle.std.proofs.Math.Option.{some}
+use Rattle.std.specs.Prelude.{ℕ, ◌+◌, ◌*◌, ◌≤◌, ◌<◌, ◌≡◌, ◌⊎◌, ◌↔◌, List, ◌++◌, length, get_or, ℤ, pos, ◌+ℤ◌, ◌≤ℤ◌, Some}
 use Rattle.paper.specs.Gaps.{gap_of}
 use Rattle.paper.specs.Clock.{limit}
 use Rattle.paper.specs.Matching.{send_of}
@@ -29,7 +28,7 @@ pub record Allowed (table : List ℕ) (es : List Entry) (x : ℕ → ℤ) : Type
   -- "each processor's order stays"
   pub order : (j k : ℕ) → j < k → k < length es → processor es j ≡ processor es k → x j ≤ℤ x k
   -- "each receive is at least its latency after its send"
-  pub clock : (j k : ℕ) → k < length es → send_of es k ≡ some j
+  pub clock : (j k : ℕ) → k < length es → send_of es k ≡ Some j
       → (x j +ℤ pos (get_or table (64 * processor es j + processor es k) 0)) ≤ℤ x k
 
 -- ---- and with the ninth change request's condition

@@ -1,8 +1,7 @@
 -- Rows 5 to 14 of document 01's table: what is bad in a line, given without its LF, and in a receive. What "Within a line" looks at
 -- earlier is good in each row. Rows 5 to 10 name the field that decides, counted from 0: "After document 01's order the leftmost fault
 -- decides; a field too many is one."
-use Rattle.std.specs.Prelude.{ℕ, zero, suc, ◌+◌, ◌≤◌, ◌<◌, ◌≡◌, ◌⊎◌, true, false, cond, List, [], ◌∷◌, length, replicate, ℤ, pos, ◌≤ℤ◌, ◌<ℤ◌}
-use Rattle.std.proofs.Math.Option.{Option, none, some}
+use Rattle.std.specs.Prelude.{ℕ, zero, suc, ◌+◌, ◌≤◌, ◌<◌, ◌≡◌, ◌⊎◌, true, false, cond, List, [], ◌∷◌, length, replicate, ℤ, pos, ◌≤ℤ◌, ◌<ℤ◌, Option, Result, Some, None, Ok}
 use Rattle.paper.specs.Tests.{eq_z, up_to, minus}
 use Rattle.paper.specs.Text.{bytes_of}
 use Rattle.paper.specs.Forms.{whole_of, time_of}
@@ -16,8 +15,6 @@ use Rattle.paper.specs.declared.Choice.TheVariants.{Strict}
 use Rattle.paper.specs.declared.Data.{Data}
 use Rattle.paper.specs.declared.Data.TheVariants.{Three}
 use Rattle.paper.specs.declared.Entry.{Entry}
-use Rattle.paper.specs.declared.Field.{Field}
-use Rattle.paper.specs.declared.Field.TheVariants.{Good, Bad}
 use Rattle.paper.specs.declared.Head.{Head}
 use Rattle.paper.specs.declared.Line.TheVariants.{Listed}
 use Rattle.paper.specs.declared.Message.{Message}
@@ -25,8 +22,6 @@ use Rattle.paper.specs.declared.Part.TheVariants as Part
 use Rattle.paper.specs.declared.Record.{Record}
 use Rattle.paper.specs.declared.Role.TheVariants.{Receive}
 use Rattle.paper.specs.declared.Standing.TheVariants as Standing
-use Rattle.paper.specs.declared.Values.{Values}
-use Rattle.paper.specs.declared.Values.TheVariants as Values
 use Rattle.matching.specs.Belongs.{role, Belongs}
 use Rattle.demands.specs.Before.{Below, ComesTo}
 use Rattle.demands.specs.Levels.{AtLevels}
@@ -35,13 +30,13 @@ use Rattle.demands.specs.Statistics.{NoDifference}
 -- ---- the six fields
 
 -- record type, event type, timestamp, processor, process, number of data fields
-abbrev pub six_forms : List (List ℕ → Field)
+abbrev pub six_forms : List (List ℕ → Option ℤ)
 six_forms = whole_of ∷ whole_of ∷ time_of ∷ whole_of ∷ whole_of ∷ count_of ∷ []
 
 -- "left to right": field k is the first that is not in its form, k counted from 0
-pub data FirstBad : List (List ℕ → Field) → List ℕ → ℕ → Type 0 where
-  here : {form : List ℕ → Field} {forms : List (List ℕ → Field)} {l : List ℕ} → form (field l) ≡ Bad → FirstBad (form ∷ forms) l 0
-  later : {form : List ℕ → Field} {forms : List (List ℕ → Field)} {l : List ℕ} {k : ℕ} (v : ℤ) → form (field l) ≡ Good v
+pub data FirstBad : List (List ℕ → Option ℤ) → List ℕ → ℕ → Type 0 where
+  here : {form : List ℕ → Option ℤ} {forms : List (List ℕ → Option ℤ)} {l : List ℕ} → form (field l) ≡ None → FirstBad (form ∷ forms) l 0
+  later : {form : List ℕ → Option ℤ} {forms : List (List ℕ → Option ℤ)} {l : List ℕ} {k : ℕ} (v : ℤ) → form (field l) ≡ Some v
       → FirstBad forms (after l) k → FirstBad (form ∷ forms) l (suc k)
 
 -- all six are good, with the fields after them
@@ -68,35 +63,36 @@ pub record OnPlace (l : List ℕ) : Type 0 where
   pub six : Six l
   pub listed : ListedHead six.head
   pub processor : ℕ
-  pub place : placed six.head.processor six.head.process ≡ some processor
+  pub place : placed six.head.processor six.head.process ≡ Some processor
 
 -- ---- its data
 
-abbrev pub data_in : {l : List ℕ} → Six l → Values
+abbrev pub data_in : {l : List ℕ} → Six l → Result Data ℕ
 data_in s = values_in s.head.kind s.head.count s.fields
 
 -- of fields in these forms, left to right: the one at place k is the first that is bad or missing, or the first too many
-pub data FirstWrong : List (List ℕ → Field) → Option (List ℕ) → ℕ → Type 0 where
-  too_many_lem : {l : List ℕ} → FirstWrong [] (some l) 0
-  missing : {form : List ℕ → Field} {forms : List (List ℕ → Field)} → FirstWrong (form ∷ forms) none 0
-  bad_datum : {form : List ℕ → Field} {forms : List (List ℕ → Field)} {l : List ℕ} → form (field l) ≡ Bad → FirstWrong (form ∷ forms) (some l) 0
-  good_datum : {form : List ℕ → Field} {forms : List (List ℕ → Field)} {l : List ℕ} {k : ℕ} (v : ℤ) → form (field l) ≡ Good v
-      → FirstWrong forms (rest l) k → FirstWrong (form ∷ forms) (some l) (suc k)
+pub data FirstWrong : List (List ℕ → Option ℤ) → Option (List ℕ) → ℕ → Type 0 where
+  too_many_lem : {l : List ℕ} → FirstWrong [] (Some l) 0
+  missing : {form : List ℕ → Option ℤ} {forms : List (List ℕ → Option ℤ)} → FirstWrong (form ∷ forms) None 0
+  bad_datum : {form : List ℕ → Option ℤ} {forms : List (List ℕ → Option ℤ)} {l : List ℕ} → form (field l) ≡ None
+      → FirstWrong (form ∷ forms) (Some l) 0
+  good_datum : {form : List ℕ → Option ℤ} {forms : List (List ℕ → Option ℤ)} {l : List ℕ} {k : ℕ} (v : ℤ) → form (field l) ≡ Some v
+      → FirstWrong forms (rest l) k → FirstWrong (form ∷ forms) (Some l) (suc k)
 
 -- "the limit of 16 and the data", of n data and the fields behind the six
 pub data BadData : ℕ → Option (List ℕ) → ℕ → Type 0 where
   -- "in a listed record at most 16"
   above_limit : {n : ℕ} {fields : Option (List ℕ)} → 16 < n → BadData n fields 5
   -- "only if that number is above zero, a descriptor and the data"
-  not_stated : {l : List ℕ} → BadData 0 (some l) 6
-  no_descriptor : {n : ℕ} → 0 < n → n ≤ 16 → BadData n none 6
+  not_stated : {l : List ℕ} → BadData 0 (Some l) 6
+  no_descriptor : {n : ℕ} → 0 < n → n ≤ 16 → BadData n None 6
   -- "2 (each datum a whole number) or 5 (each datum in the form of a time)"
-  bad_descriptor : {n : ℕ} {l : List ℕ} → 0 < n → n ≤ 16 → ¬ (whole_of (field l) ≡ Good (pos 2)) → ¬ (whole_of (field l) ≡ Good (pos 5))
-      → BadData n (some l) 6
-  bad_wholes : {n : ℕ} {l : List ℕ} {k : ℕ} → 0 < n → n ≤ 16 → whole_of (field l) ≡ Good (pos 2) → FirstWrong (replicate n whole_of) (rest l) k
-      → BadData n (some l) (7 + k)
-  bad_times : {n : ℕ} {l : List ℕ} {k : ℕ} → 0 < n → n ≤ 16 → whole_of (field l) ≡ Good (pos 5) → FirstWrong (replicate n time_of) (rest l) k
-      → BadData n (some l) (7 + k)
+  bad_descriptor : {n : ℕ} {l : List ℕ} → 0 < n → n ≤ 16 → ¬ (whole_of (field l) ≡ Some (pos 2)) → ¬ (whole_of (field l) ≡ Some (pos 5))
+      → BadData n (Some l) 6
+  bad_wholes : {n : ℕ} {l : List ℕ} {k : ℕ} → 0 < n → n ≤ 16 → whole_of (field l) ≡ Some (pos 2) → FirstWrong (replicate n whole_of) (rest l) k
+      → BadData n (Some l) (7 + k)
+  bad_times : {n : ℕ} {l : List ℕ} {k : ℕ} → 0 < n → n ≤ 16 → whole_of (field l) ≡ Some (pos 5) → FirstWrong (replicate n time_of) (rest l) k
+      → BadData n (Some l) (7 + k)
 
 -- ---- the data of a statistics line
 
@@ -105,7 +101,7 @@ abbrev pub text_for : ℤ → List ℕ
 text_for kind = cond (eq_z kind (minus 101)) (bytes_of "\"%d%lf\"") (bytes_of "\"%d%d\"")
 
 -- n pairs, each an event and what is told of it
-abbrev pub pair_forms : (List ℕ → Field) → ℕ → List (List ℕ → Field)
+abbrev pub pair_forms : (List ℕ → Option ℤ) → ℕ → List (List ℕ → Option ℤ)
 pair_forms told zero = []
 pair_forms told (suc n) = whole_of ∷ told ∷ pair_forms told n
 
@@ -113,11 +109,11 @@ pair_forms told (suc n) = whole_of ∷ told ∷ pair_forms told n
 pub data BadPairs (kind : ℤ) : ℕ → Option (List ℕ) → ℕ → Type 0 where
   -- "the data count counts pairs, at most 16"
   pairs_above_limit : {n : ℕ} {fields : Option (List ℕ)} → 16 < n → BadPairs kind n fields 5
-  pairs_not_stated : {l : List ℕ} → BadPairs kind 0 (some l) 6
-  no_text : {n : ℕ} → 0 < n → n ≤ 16 → BadPairs kind n none 6
-  other_text : {n : ℕ} {l : List ℕ} → 0 < n → n ≤ 16 → ¬ (field l ≡ text_for kind) → BadPairs kind n (some l) 6
+  pairs_not_stated : {l : List ℕ} → BadPairs kind 0 (Some l) 6
+  no_text : {n : ℕ} → 0 < n → n ≤ 16 → BadPairs kind n None 6
+  other_text : {n : ℕ} {l : List ℕ} → 0 < n → n ≤ 16 → ¬ (field l ≡ text_for kind) → BadPairs kind n (Some l) 6
   bad_pair : {n : ℕ} {l : List ℕ} {k : ℕ} → 0 < n → n ≤ 16 → field l ≡ text_for kind → FirstWrong (pair_forms (told_for kind) n) (rest l) k
-      → BadPairs kind n (some l) (7 + k)
+      → BadPairs kind n (Some l) (7 + k)
 
 -- ---- 5 to 10
 
@@ -161,16 +157,16 @@ BadPlace l k = (s : Six l) × ListedHead s.head × OffPlace s.head k
 -- many data, the descriptor and the data behind it
 pub data Lacks (n : ℕ) (fields : Option (List ℕ)) : ℕ → Type 0 where
   other_count : ¬ (n ≡ 3) → Lacks n fields 5
-  other_descriptor : (l : List ℕ) → n ≡ 3 → fields ≡ some l → ¬ (whole_of (field l) ≡ Good (pos 2)) → Lacks n fields 6
-  bad_length : (length tag peer : ℤ) → data_of n fields ≡ Values.Good (Three length tag peer) → length <ℤ pos 0 → Lacks n fields 7
-  bad_peer : (length tag peer : ℤ) → data_of n fields ≡ Values.Good (Three length tag peer) → pos 0 ≤ℤ length → up_to 63 peer ≡ false
+  other_descriptor : (l : List ℕ) → n ≡ 3 → fields ≡ Some l → ¬ (whole_of (field l) ≡ Some (pos 2)) → Lacks n fields 6
+  bad_length : (length tag peer : ℤ) → data_of n fields ≡ Ok (Three length tag peer) → length <ℤ pos 0 → Lacks n fields 7
+  bad_peer : (length tag peer : ℤ) → data_of n fields ≡ Ok (Three length tag peer) → pos 0 ≤ℤ length → up_to 63 peer ≡ false
       → Lacks n fields 9
 
 -- 10, "a send or receive without its three good data"
 pub record NoMessage (l : List ℕ) (k : ℕ) : Type 0 where
   pub place : OnPlace l
   pub values : Data
-  pub well_formed : data_in place.six ≡ Values.Good values
+  pub well_formed : data_in place.six ≡ Ok values
   pub sends_or_receives : ¬ (part_of place.six.head.kind place.six.head.event ≡ Part.Neither)
   pub lacks : Lacks place.six.head.count place.six.fields k
 

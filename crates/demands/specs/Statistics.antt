@@ -1,8 +1,7 @@
 -- Row 19, of the eighth change request: the statistics lines "with event field -1 are compared, pair by pair, with that processor's earlier
 -- records of the pair's event at original times .. A difference is refusal 19 at the first statistics line in the file that has one, after
 -- the line checks and 17, before 13."
-use Rattle.std.specs.Prelude.{ℕ, ◌+◌, ◌-◌, ◌<◌, ◌≡◌, ◌⊎◌, List, length, take, get_or, ℤ, pos, nat_abs, ◌-ℤ◌}
-use Rattle.std.proofs.Math.Option.{Option}
+use Rattle.std.specs.Prelude.{ℕ, ◌+◌, ◌-◌, ◌<◌, ◌≡◌, ◌⊎◌, List, length, take, get_or, ℤ, pos, nat_abs, ◌-ℤ◌, Option}
 use Rattle.paper.specs.Tests.{minus}
 use Rattle.paper.specs.Events.{standing_of}
 use Rattle.paper.specs.Line.{six, head_of, pairs, pairs_for}

@@ -1,6 +1,5 @@
 -- How far a call comes: the checks that it passes, in document 01's order, with 17 and then 19 between the lines and 13.
-use Rattle.std.specs.Prelude.{ℕ, ◌≤◌, ◌<◌, ◌≡◌, ◌⊎◌, List, length, get_or, ℤ}
-use Rattle.std.proofs.Math.Option.{some}
+use Rattle.std.specs.Prelude.{ℕ, ◌≤◌, ◌<◌, ◌≡◌, ◌⊎◌, List, length, get_or, ℤ, Some, Ok}
 use Rattle.paper.specs.Reading.{Reading, read_of}
 use Rattle.paper.specs.Levels.{levels_of}
 use Rattle.paper.specs.Statistics.{statistics_of}
@@ -10,12 +9,11 @@ use Rattle.paper.specs.Answer.{Inputs, given, most, longest, heard, written}
 use Rattle.paper.specs.declared.Asked.{Asked}
 use Rattle.paper.specs.declared.Choice.{Choice}
 use Rattle.paper.specs.declared.Entry.{Entry}
-use Rattle.paper.specs.declared.Stop.TheVariants.{End}
 
 -- ---- "1 to 4", each where it passes
 
 abbrev pub Chosen : Inputs → Choice → Type 0
-Chosen i choice = heard i.asked ≡ some choice
+Chosen i choice = heard i.asked ≡ Some choice
 
 -- and where 1 does not pass: "choice is neither 1 (strict) nor 2 (lenient)", or the levels are neither "0 for off .. or 1 for on", or the
 -- statistics neither "0 for off or 1 for on"
@@ -56,28 +54,28 @@ original es k = (entry_at es k).body.time
 -- no line is refused
 pub record Read (i : Inputs) (choice : Choice) : Type 0 where
   pub begun : Begun i choice
-  pub whole : (reading i choice).stop ≡ End
+  pub whole : (reading i choice).stop ≡ Ok tt
 
 -- ---- "After the lines are read, and before 13, refuse with 17"
 
 -- no processor calls for it
 pub record Levelled (i : Inputs) (choice : Choice) : Type 0 where
   pub read : Read i choice
-  pub levels : levels_of i.asked (entries i choice) ≡ End
+  pub levels : levels_of i.asked (entries i choice) ≡ Ok tt
 
 -- ---- "after the line checks and 17, before 13", 19
 
 -- no statistics line calls for it
 pub record Compared (i : Inputs) (choice : Choice) : Type 0 where
   pub levelled : Levelled i choice
-  pub agree : statistics_of i.asked i.trace (entries i choice) ≡ End
+  pub agree : statistics_of i.asked i.trace (entries i choice) ≡ Ok tt
 
 -- ---- "then the first receive .. that calls for 13 or 14"
 
 -- no receive does
 pub record Matched (i : Inputs) (choice : Choice) : Type 0 where
   pub compared : Compared i choice
-  pub matches : matched_of (entries i choice) ≡ End
+  pub matches : matched_of (entries i choice) ≡ Ok tt
 
 -- ---- "then 15; then 16"
 

@@ -7,7 +7,6 @@ use Rattle.paper.specs.Clock.{Sound, settle, settled}
 use Rattle.paper.specs.Answer.{Inputs, given, most, written}
 use Rattle.paper.specs.declared.Choice.{Choice}
 use Rattle.paper.specs.declared.Fault.{Fault}
-use Rattle.paper.specs.declared.Fault.TheVariants as Fault
 use Rattle.paper.specs.declared.Site.{Site}
 use Rattle.demands.specs.Steps.{Chosen, Unheard, RightSizes, LowLatencies, ShortTrace, Matched, waits}
 use Rattle.demands.specs.Before.{ComesTo, AtLine}

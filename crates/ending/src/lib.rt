@@ -6,29 +6,24 @@ ghost use Rattle.ending.specs.Ending.{answer_for, times_after, EndedBy};
 
 use answer::Counts;
 use paper::{Answer, Fault};
-use writing::Written;
+use writing::Unwritten;
 
 // "The first places hold the corrected times of the listed records in file order; later places are untouched."
 fn copy_times(new: &[i64], times: &mut [i64])
     requires { length new.now ≤ length times.old }
     ensures { times.new ≡ new.now ++ drop (length new.now) times.old }
 {
-    let mut i: usize = 0;
-    while i < new.len() {
-        times[i] = new[i];
-        i += 1;
-    }
+    times[..new.len()].copy_from_slice(new);
 }
 
 // 16, or acceptance with the written trace's length.
-fn answer_for(counts: Counts, done: Written) -> Answer
+fn answer_for(counts: Counts, done: Result<usize, Unwritten>) -> Answer
     ensures { result ≡ answer_for counts done }
 {
     match done {
-        Written::Length(bytes) => answer::accepted(counts, bytes),
-        Written::NoRoom => answer::refused_nowhere(Fault::NoRoom),
-        // never: the store is that of the trace, and the times that the clock condition settles are within the limit
-        Written::Unfit => answer::refused_nowhere(Fault::NoRoom),
+        Ok(bytes) => answer::accepted(counts, bytes),
+        // never unfit: the store is that of the trace, and the times that the clock condition settles are within the limit
+        Err(Unwritten::NoRoom | Unwritten::Unfit) => answer::refused_nowhere(Fault::NoRoom),
     }
 }
 
@@ -36,16 +31,18 @@ fn answer_for(counts: Counts, done: Written) -> Answer
 fn keep_times(number: u64, new: &[i64], times: &mut [i64])
     ensures { times.new ≡ times_after number new.now times.old }
 {
-    if number != 0 {
-        return;
-    }
-    if new.len() <= times.len() {
+    if number == 0 && new.len() <= times.len() {
         copy_times(new, times);
     }
 }
 
 // The answer first, and the times by it.
-pub fn answered(counts: Counts, done: Written, new: &[i64], times: &mut [i64]) -> Answer
+pub fn answered(
+    counts: Counts,
+    done: Result<usize, Unwritten>,
+    new: &[i64],
+    times: &mut [i64],
+) -> Answer
     ensures { EndedBy counts done new.now times.old result times.new }
 {
     let answer = answer_for(counts, done);

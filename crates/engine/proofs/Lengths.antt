@@ -1,21 +1,18 @@
--- Slices that fit: the test of all of them, and the facts.
+-- Slices that fit, by the test of all of them and as facts.
 use Prim.Native.Nat.{ℕ, ◌<◌}
 use native.Mathlib.Omega.{arith}
 use mathlib.Core.Path.{◌≡◌, refl, sym, ◌∙◌}
 use mathlib.Core.List.{List, [], ◌∷◌}
-use mathlib.Core.Bool.{Bool, true, false, cond}
+use mathlib.Core.Bool.{true}
 use lib.ListN.{length}
 use lib.IntN.{ℤ}
-use lib.Dec.{eqb}
+use lib.Dec.{leb, eqb}
+use Rattle.std.specs.List.{list_all}
 use borrow.Author.Tests.{eqb-true, eq-eqb, ne_eqb}
 use Rattle.paper.specs.Tests.{all_up_to}
-use Rattle.forms.proofs.Tests.{both as tests}
+use Rattle.forms.proofs.Tests.{both}
 use Rattle.engine.specs.Promise.{all_are, widest, gaps_for, fitting}
 use Rattle.engine.specs.Inner.{Sized}
-
-pub both : (a b : Bool) → cond a b false ≡ true → (a ≡ true) × (b ≡ true)
-both true b e = (refl, e)
-both false b e = (e, cc)
 
 pub first_equal : (n m : ℕ) (ms : List ℕ) → all_are n (m ∷ ms) ≡ true → (m ≡ n) × (all_are n ms ≡ true)
 unfolding all_are
@@ -30,28 +27,11 @@ all_equal n a b c d e h =
     (first, second, third, fourth, (first_equal n e _ h₄).0)
 
 module _ (before gap send latency : List ℕ) (times spare : List ℤ) where
-  abbrev pub lengths : List ℕ
-  lengths = length before ∷ gaps_for (length times) (length gap) ∷ length send ∷ length latency ∷ length spare ∷ []
-
-  -- by both tests, as the code makes them
-  pub lengths_misfit : all_are (length times) lengths ≡ false → fitting before gap send latency times spare ≡ false
-  unfolding fitting
-  lengths_misfit e = rw e
-
-  module _ (equal : all_are (length times) lengths ≡ true) where
-    pub wide_misfit : all_up_to widest gap ≡ false → fitting before gap send latency times spare ≡ false
-    unfolding fitting
-    wide_misfit e = rw (equal, e)
-
-    pub all_fit : all_up_to widest gap ≡ true → fitting before gap send latency times spare ≡ true
-    unfolding fitting
-    all_fit e = rw (equal, e)
-
-  -- and as facts
+  -- as facts
   pub fits : fitting before gap send latency times spare ≡ true → Sized before gap send latency times spare
   unfolding fitting
   fits e =
-      let all = tests (all_are (length times) lengths) _ e in
+      let all = both (all_are (length times) _) _ e in
       let (b, g, s, l, p) = all_equal (length times) _ _ _ _ _ all.0 in
       record { befores = b; gaps = g; sends = s; latencies = l; spares = p; narrow = all.1 }
 
@@ -78,3 +58,8 @@ resized s t p =
       spares = p ∙ sym t;
       narrow = s.narrow;
     }
+
+pub all_narrow : (gap : List ℕ) → list_all (λ x. leb x widest) gap ≡ all_up_to widest gap
+unfolding all_up_to
+all_narrow [] = refl
+all_narrow (x ∷ xs) = rw (all_narrow xs)

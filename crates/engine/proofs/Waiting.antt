@@ -1,8 +1,8 @@
 -- Places of records in slices, and the waits that they make.
+use Rattle.std.specs.Prelude.{Some, None}
 use Prim.Native.Nat.{ℕ, suc, ◌-◌, ◌^◌, ◌≤◌, ◌<◌}
 use native.Mathlib.Omega.{arith}
 use mathlib.Core.Path.{◌≡◌}
-use mathlib.Core.Option.{none, some}
 use mathlib.Core.List.{List}
 use lib.IntN.{ℤ, pos, negsuc, ◌+ℤ◌}
 use lib.Signed.{mag, ◌≤ℤ◌}
@@ -13,15 +13,15 @@ use Rattle.rounds.specs.Meaning.{on_before, on_send, Closed}
 use Rattle.rounds.proofs.Order.{test}
 use Rattle.engine.specs.Promise.{place, waits_of, widest}
 
-pub place_at : {j n : ℕ} → j < n → place n j ≡ some j
+pub place_at : {j n : ℕ} → j < n → place n j ≡ Some j
 place_at {j} {n} l = rw (lt-ltb j n l)
 
-pub place_none : {j n : ℕ} → n ≤ j → place n j ≡ none
+pub place_none : {j n : ℕ} → n ≤ j → place n j ≡ None
 place_none {j} {n} l = rw (le-ltb j n l)
 
-place_in : (n i j : ℕ) → place n i ≡ some j → j < n
+place_in : (n i j : ℕ) → place n i ≡ Some j → j < n
 place_in n i j =
-    test (λ o. o ≡ some j → j < n) (ltb i n) (some i) none
+    test (λ o. o ≡ Some j → j < n) (ltb i n) (Some i) None
     (λ h e. let s : i ≡ j = cc in omega (arith, ltb→lt i n h))
     (λ h e. let z : ◌≡◌ {A = ℕ} 0 1 = cc in omega arith)
 

@@ -1,15 +1,13 @@
 -- The engine's promise: the waits that its slices stand for, and how its rounds end.
-use Rattle.std.specs.Prelude.{ℕ, ◌≡◌, List, [], ◌∷◌, Bool, true, false, cond, ◌&&◌, length, get_or, ℤ, ltb, eqb}
-use Rattle.std.proofs.Math.Option.{Option, none, some}
+use Rattle.std.specs.Prelude.{ℕ, ◌≡◌, List, [], ◌∷◌, Bool, true, false, cond, ◌&&◌, length, get_or, ℤ, ltb, eqb, Option, Result, Some, None, Ok, Err}
 use Rattle.paper.specs.Tests.{all_up_to}
 use Rattle.paper.specs.Clock as paper
 use Rattle.paper.specs.Clock.{Waits, time_at, settled, impossible}
-use Rattle.engine.specs.declared.Run.{Run}
-use Rattle.engine.specs.declared.Run.TheVariants.{At, Never, Misfit}
+use Rattle.engine.specs.declared.Unsettled.{Unsettled}
 
 -- the record at this place of n, none from n on
 abbrev pub place : ℕ → ℕ → Option ℕ
-place n j = cond (ltb j n) (some j) none
+place n j = cond (ltb j n) (Some j) None
 
 -- for each record its original, the place of the record before it with the gap to keep from there, the place of its send, and the latency
 -- from there
@@ -26,7 +24,7 @@ waits_of originals before gap send latency = record {
 -- whether each of these is n
 unfoldable pub all_are : ℕ → List ℕ → Bool
 all_are n [] = true
-all_are n (m ∷ ms) = cond (eqb m n) (all_are n ms) false
+all_are n (m ∷ ms) = eqb m n && all_are n ms
 
 -- the widest gap between two times that the format holds
 abbrev pub widest : ℕ
@@ -44,12 +42,12 @@ fitting before gap send latency times spare =
 -- ---- how the rounds end
 
 -- in the paper's answer: where it is one of times, both slices hold them
-unfoldable pub Ended : Waits → Run → (times spare : List ℤ) → Type 0
-Ended w (At k) times spare = (paper.settle w ≡ settled k times) × (spare ≡ times)
-Ended w Never times spare = paper.settle w ≡ impossible
-Ended w Misfit times spare = ⊥
+unfoldable pub Ended : Waits → Result ℕ Unsettled → (times spare : List ℤ) → Type 0
+Ended w (Ok k) times spare = (paper.settle w ≡ settled k times) × (spare ≡ times)
+Ended w (Err Unsettled.Impossible) times spare = paper.settle w ≡ impossible
+Ended w (Err Unsettled.Misfit) times spare = ⊥
 
 -- where the slices fit; and else nothing is touched
-pub record RunInto (fits : Bool) (w : Waits) (times spare : List ℤ) (r : Run) (times' spare' : List ℤ) : Type 0 where
+pub record RunInto (fits : Bool) (w : Waits) (times spare : List ℤ) (r : Result ℕ Unsettled) (times' spare' : List ℤ) : Type 0 where
   pub ends : fits ≡ true → Ended w r times' spare'
-  pub misfits : fits ≡ false → (r ≡ Misfit) × (times' ≡ times) × (spare' ≡ spare)
+  pub misfits : fits ≡ false → (r ≡ (Err Unsettled.Misfit)) × (times' ≡ times) × (spare' ≡ spare)

@@ -1,11 +1,12 @@
 -- A match on a signed number becomes a tree of tests against its ends, and each way through the tree leaves a run of numbers. A
 -- run that lies inside a range of the table, or apart from all of them, has one standing, and a test of its two ends says which.
 -- The table's single numbers are keys of the match: on every other way the event is known to be none of them.
+use Rattle.std.specs.Prelude.{Option, Some, None}
 use Prim.Native.Nat.{ℕ, zero, suc, ◌-◌, ◌≤◌, ◌^◌}
 use mathlib.Core.Path.{◌≡◌, refl, ap, sym, ◌∙◌}
 use mathlib.Core.List.{List, [], ◌∷◌}
 use mathlib.Core.Bool.{Bool, true, false, cond, ◌&&◌, ◌||◌}
-use mathlib.Core.Option.{Option, none, some, some-injective}
+use Rattle.std.proofs.lemmas.Option.{same_Some}
 use mathlib.Core.Logic.{◌⊎◌, inl, inr}
 use native.Mathlib.Omega.{arith}
 use lib.Dec.{leb, ltb, eqb}
@@ -27,10 +28,10 @@ never e = absurd (omega arith)
 
 -- whether the numbers from lo to hi are in the ranges, where that is one answer for all of them; single numbers are left out
 abbrev pub over : List (ℕ × ℕ) → ℕ → ℕ → Option Bool
-over [] lo hi = some false
+over [] lo hi = Some false
 over (r ∷ rs) lo hi =
     cond (eqb r.0 r.1) (over rs lo hi)
-    (cond (ltb hi r.0) (over rs lo hi) (cond (ltb r.1 lo) (over rs lo hi) (cond (leb r.0 lo && leb hi r.1) (some true) none)))
+    (cond (ltb hi r.0) (over rs lo hi) (cond (ltb r.1 lo) (over rs lo hi) (cond (leb r.0 lo && leb hi r.1) (Some true) None)))
 
 -- n is none of the single numbers
 abbrev other : Bool → ℕ → ℕ → Type 0
@@ -55,43 +56,43 @@ outside a b n t h = go (leb a n) (leb n b) refl refl
 
 module _ (lo hi n : ℕ) (l : lo ≤ n) (h : n ≤ hi) where
   -- one range from a to b, o and i being the answers of the others
-  one_range : (a b : ℕ) (o : Option Bool) (i : Bool) {t : Bool} → other (eqb a b) a n → (o ≡ some t → i ≡ t)
-      → cond (eqb a b) o (cond (ltb hi a) o (cond (ltb b lo) o (cond (leb a lo && leb hi b) (some true) none))) ≡ some t
+  one_range : (a b : ℕ) (o : Option Bool) (i : Bool) {t : Bool} → other (eqb a b) a n → (o ≡ Some t → i ≡ t)
+      → cond (eqb a b) o (cond (ltb hi a) o (cond (ltb b lo) o (cond (leb a lo && leb hi b) (Some true) None))) ≡ Some t
       → (leb a n && leb n b || i) ≡ t
   one_range a b o i {t} k f e = go (eqb a b) (ltb hi a) (ltb b lo) (leb a lo && leb hi b) refl refl refl refl k e
     where
       go : (x y z w : Bool) → eqb a b ≡ x → ltb hi a ≡ y → ltb b lo ≡ z → (leb a lo && leb hi b) ≡ w → other x a n
-          → cond x o (cond y o (cond z o (cond w (some true) none))) ≡ some t → (leb a n && leb n b || i) ≡ t
+          → cond x o (cond y o (cond z o (cond w (Some true) None))) ≡ Some t → (leb a n && leb n b || i) ≡ t
       go true y z w p q r u k e = outside a b n i (λ c d. k (omega (arith, eqb-true a b p))) ∙ f e
       go false true z w p q r u k e = outside a b n i (λ c d. omega (arith, ltb-true hi a q)) ∙ f e
       go false false true w p q r u k e = outside a b n i (λ c d. omega (arith, ltb-true b lo r)) ∙ f e
       go false false false true p q r u k e =
           let v = both (leb a lo) (leb hi b) u in
-          rw (le-leb a n (omega (arith, leb-true a lo v.0)), le-leb n b (omega (arith, leb-true hi b v.1))) (some-injective true t e)
+          rw (le-leb a n (omega (arith, leb-true a lo v.0)), le-leb n b (omega (arith, leb-true hi b v.1))) (same_Some true t e)
       go false false false false p q r u k e = never (cc)
 
-  over_is : (rs : List (ℕ × ℕ)) {t : Bool} → Apart rs n → over rs lo hi ≡ some t → in_ranges rs n ≡ t
+  over_is : (rs : List (ℕ × ℕ)) {t : Bool} → Apart rs n → over rs lo hi ≡ Some t → in_ranges rs n ≡ t
   unfolding in_ranges
-  over_is [] a e = some-injective false _ e
+  over_is [] a e = same_Some false _ e
   over_is (r ∷ rs) a e = one_range r.0 r.1 (over rs lo hi) (in_ranges rs n) a.0 (over_is rs a.1) e
 
 -- ---- a run against the table
 
 abbrev pub pick : Option Bool → Option Standing → Option Standing → Option Standing
-pick none a b = none
-pick (some true) a b = a
-pick (some false) a b = b
+pick None a b = None
+pick (Some true) a b = a
+pick (Some false) a b = b
 
 -- the standing of the negatives from -hi to -lo, where they have one
 abbrev pub standing_in : ℕ → ℕ → Option Standing
 standing_in lo hi =
-    pick (over messages lo hi) (some Message) (pick (over not_handled lo hi) (some NotHandled) (pick (over listed_events lo hi) (some Listed) (some Unlisted)))
+    pick (over messages lo hi) (Some Message) (pick (over not_handled lo hi) (Some NotHandled) (pick (over listed_events lo hi) (Some Listed) (Some Unlisted)))
 
-picked : {s : Standing} (o : Option Bool) (a : Standing) (b : Option Standing) → pick o (some a) b ≡ some s
-    → (i : Bool) → ((t : Bool) → o ≡ some t → i ≡ t) → (j : Standing) → (b ≡ some s → s ≡ j) → s ≡ cond i a j
-picked none a b e i f j g = never (cc)
-picked (some true) a b e i f j g = rw (f true refl) (sym (some-injective a _ e))
-picked (some false) a b e i f j g = rw (f false refl) (g e)
+picked : {s : Standing} (o : Option Bool) (a : Standing) (b : Option Standing) → pick o (Some a) b ≡ Some s
+    → (i : Bool) → ((t : Bool) → o ≡ Some t → i ≡ t) → (j : Standing) → (b ≡ Some s → s ≡ j) → s ≡ cond i a j
+picked None a b e i f j g = never (cc)
+picked (Some true) a b e i f j g = rw (f true refl) (sym (same_Some a _ e))
+picked (Some false) a b e i f j g = rw (f false refl) (g e)
 
 -- ---- an event that is no key of the match
 
@@ -108,12 +109,12 @@ module _ (n : ℕ) (k : NoKey (negsuc n)) where
   not_251 : suc n ≡ 251 → ⊥
   not_251 p = let q : n ≡ 250 = omega arith in k.1 (inl (ap (λ (j : ℕ). of_z w64 (negsuc j)) q))
 
-  stands : {s : Standing} (lo hi : ℕ) → lo ≤ suc n → suc n ≤ hi → standing_in lo hi ≡ some s → s ≡ negative (suc n)
+  stands : {s : Standing} (lo hi : ℕ) → lo ≤ suc n → suc n ≤ hi → standing_in lo hi ≡ Some s → s ≡ negative (suc n)
   unfolding negative
   stands {s} lo hi l h e =
       picked (over messages lo hi) Message _ e (in_ranges messages (suc n)) (λ t. over_is lo hi (suc n) l h messages (not_21, (tt, (tt, (tt, tt))))) _
       (λ e. picked (over not_handled lo hi) NotHandled _ e (in_ranges not_handled (suc n)) (λ t. over_is lo hi (suc n) l h not_handled (tt, (tt, (tt, (tt, tt))))) _
-      (λ e. picked (over listed_events lo hi) Listed (some Unlisted) e (in_ranges listed_events (suc n)) (λ t. over_is lo hi (suc n) l h listed_events (tt, (tt, (not_221, (not_251, (tt, (tt, (tt, (tt, (tt, tt)))))))))) Unlisted (λ e. sym (some-injective Unlisted s e))))
+      (λ e. picked (over listed_events lo hi) Listed (Some Unlisted) e (in_ranges listed_events (suc n)) (λ t. over_is lo hi (suc n) l h listed_events (tt, (tt, (not_221, (not_251, (tt, (tt, (tt, (tt, (tt, tt)))))))))) Unlisted (λ e. sym (same_Some Unlisted s e))))
 
 -- ---- the ways of the code, for an event e read back from its bits
 
@@ -131,7 +132,7 @@ negative_only n (suc k) p = never (cc)
 
 module _ {e : ℤ} (f : SFits w64 e) where
   -- from -hi to -lo
-  pub run : {s : Standing} (lo hi : ℕ) → NoKey e → standing_in lo hi ≡ some s
+  pub run : {s : Standing} (lo hi : ℕ) → NoKey e → standing_in lo hi ≡ Some s
       → lt_z (to_z w64 (of_z w64 e)) (neg_ℤ (pos hi)) ≡ false → lt_z (to_z w64 (of_z w64 e)) (neg_ℤ (pos (lo - 1))) ≡ true → s ≡ standing_of e
   unfolding standing_of
   run {s} lo hi k t p q = go e k (rw (to_z-of_z f) at p) (rw (to_z-of_z f) at q)
@@ -141,7 +142,7 @@ module _ {e : ℤ} (f : SFits w64 e) where
       go (negsuc n) k p q = stands n k lo hi (omega (arith, at_least n (lo - 1) q)) (at_most_lem n hi p) t
 
   -- from -lo down
-  pub down : {s : Standing} (lo : ℕ) → NoKey e → standing_in lo (2 ^ 63) ≡ some s → lt_z (to_z w64 (of_z w64 e)) (neg_ℤ (pos (lo - 1))) ≡ true → s ≡ standing_of e
+  pub down : {s : Standing} (lo : ℕ) → NoKey e → standing_in lo (2 ^ 63) ≡ Some s → lt_z (to_z w64 (of_z w64 e)) (neg_ℤ (pos (lo - 1))) ≡ true → s ≡ standing_of e
   unfolding standing_of
   down {s} lo k t q = go e f k (rw (to_z-of_z f) at q)
     where

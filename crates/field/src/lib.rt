@@ -7,9 +7,6 @@ ghost use Rattle.paper.specs.Forms.{text_of};
 ghost use Rattle.paper.specs.Line.{first_of, count_of};
 ghost use Rattle.field.specs.Cursor.{rest_at, got_of, got_next, counted_of, counted_next, Tells, read_as};
 
-use paper::Field;
-use signed::Natural;
-
 // The form that a field is read in.
 #[derive(Clone, Copy)]
 pub enum Form {
@@ -19,31 +16,14 @@ pub enum Form {
     NumbersQuoted,
 }
 
-// The value of a field, and where the next field starts.
-#[derive(Clone, Copy)]
-pub enum Got {
-    Value(i64, usize),
-    Nothing,
-}
-
-// A number of data fields, and where the next field starts.
-#[derive(Clone, Copy)]
-pub enum Counted {
-    Of(usize, usize),
-    Nothing,
-}
-
 // A field that is this text and no other.
-fn read_text(s: &[u8], text: &[u8]) -> Field
+fn read_text(s: &[u8], text: &[u8]) -> Option<i64>
     ensures { result ≡ text_of text.now s.now }
 {
-    if texts::is_same(s, text) {
-        return Field::Good(0);
-    }
-    Field::Bad
+    texts::is_same(s, text).then_some(0)
 }
 
-fn read_as(form: Form, s: &[u8]) -> Field
+fn read_as(form: Form, s: &[u8]) -> Option<i64>
     ensures { result ≡ read_as form s.now }
 {
     match form {
@@ -55,28 +35,22 @@ fn read_as(form: Form, s: &[u8]) -> Field
 }
 
 // The field that starts at the cursor.
-pub fn value_at(l: &[u8], at: usize, form: Form) -> Got
+pub fn value_at(l: &[u8], at: usize, form: Form) -> Option<(i64, usize)>
     ensures { Tells l.now (got_of l.now result) (first_of (read_as form) (rest_at l.now at)) (got_next result) }
 {
     if l.len() < at {
-        return Got::Nothing;
+        return None;
     }
-    let end = octets::find(l, at, 32);
-    match read_as(form, &l[at..end]) {
-        Field::Good(v) => Got::Value(v, end + 1),
-        Field::Bad => Got::Nothing,
-    }
+    let end = octets::find(l, at, b' ');
+    let v = read_as(form, &l[at..end])?;
+    Some((v, end + 1))
 }
 
 // "Number of data fields: 0 to 999"
-pub fn count_at(l: &[u8], at: usize) -> Counted
+pub fn count_at(l: &[u8], at: usize) -> Option<(usize, usize)>
     ensures { Tells l.now (counted_of l.now result) (first_of count_of (rest_at l.now at)) (counted_next result) }
 {
-    let Got::Value(v, next) = value_at(l, at, Form::Whole) else {
-        return Counted::Nothing;
-    };
-    let Natural::Of(n) = signed::up_to(v, 999) else {
-        return Counted::Nothing;
-    };
-    Counted::Of(n, next)
+    let (v, next) = value_at(l, at, Form::Whole)?;
+    let n = signed::up_to(v, 999)?;
+    Some((n, next))
 }

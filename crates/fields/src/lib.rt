@@ -9,19 +9,12 @@ ghost use Rattle.fields.specs.Cursor.{begun_of, begun_next};
 
 use paper::{Fault, Head};
 
-// The six fields, and where the next field starts; or the fault and the field that has it, counted from 0.
-#[derive(Clone, Copy)]
-pub enum Opening {
-    Six(Head, usize),
-    Bad(Fault, usize),
-}
-
 // "fewer than six fields (5); the six fields left to right (5 or 6), the data count here as 0 to 999"
-pub fn read_head(l: &[u8]) -> Opening
+pub fn read_head(l: &[u8]) -> Result<(Head, usize), (Fault, usize)>
     ensures { Tells l.now (begun_of l.now result) (head_of l.now) (begun_next result) }
 {
     match head::six(l) {
-        Opening::Six(h, next) => Opening::Six(h, next),
-        Opening::Bad(fault, k) => head::bad_field(l, fault, k),
+        Ok(begun) => Ok(begun),
+        Err((fault, k)) => Err(head::bad_field(l, fault, k)),
     }
 }

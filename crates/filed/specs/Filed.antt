@@ -1,7 +1,6 @@
 -- Document 01, "What the base covers": what a program says of its files, in its order. The system tells three things, which are given
 -- here: either file as it could be read, and whether the file for the written trace could be written.
-use Rattle.std.specs.Prelude.{ℕ, Bool, cond, List, length, replicate, ℤ, pos, eqb}
-use Rattle.std.proofs.Math.Option.{Option, none, some}
+use Rattle.std.specs.Prelude.{ℕ, Bool, cond, List, length, replicate, ℤ, pos, eqb, Option, Some, None}
 use Rattle.paper.specs.Columns.{nowhere}
 use Rattle.paper.specs.Answer.{judge}
 use Rattle.paper.specs.declared.Answer.{Answer}
@@ -40,6 +39,6 @@ on_table asked wanted trace table stored =
 
 -- "a file that can't be read .. gives the single line "cannot read"": either file, before all else that is asked of them
 unfoldable pub on_files : (asked : Asked) (wanted : Bool) (trace table : Option (List ℕ)) (stored : Bool) → Said
-on_files asked wanted none table stored = Said.CannotRead
-on_files asked wanted (some trace) none stored = Said.CannotRead
-on_files asked wanted (some trace) (some table) stored = on_table asked wanted trace table stored
+on_files asked wanted None table stored = Said.CannotRead
+on_files asked wanted (Some trace) None stored = Said.CannotRead
+on_files asked wanted (Some trace) (Some table) stored = on_table asked wanted trace table stored

@@ -1,11 +1,9 @@
-// From the bytes of both files to what is said of them: "cannot read", refusal 2, the judgement, and the file for the written trace.
+// From the bytes of both files to what is said of them: refusal 2, the judgement, and the file for the written trace.
 ghost use Rattle.std.specs.Prelude.{◌≡◌, length};
-ghost use Rattle.files.specs.File.{file_of};
 ghost use Rattle.files.specs.Told.{ByStored};
 ghost use Rattle.filed.specs.Filed.{on_latencies, on_files};
 ghost use Rattle.filed.specs.Judged.{JudgedInto};
 
-use decided::Readiness;
 use files::Disk;
 use paper::{Answer, Asked};
 use report::Said;
@@ -14,12 +12,6 @@ fn blanks() -> [i64; 2048]
     ensures { length result ≡ 2048 }
 {
     [0; 2048]
-}
-
-fn no_latencies() -> [u32; 4096]
-    ensures { length result ≡ 4096 }
-{
-    [0; 4096]
 }
 
 fn judge_into(
@@ -53,24 +45,21 @@ fn concluded<R: Disk>(
     decided::ended(storing, answer, stored)
 }
 
-// "The table file is 16,384 bytes, four for each latency, low byte first, any other length being refusal 2." What is
-// decoded of a table that could not be read is not looked at.
+// "The table file is 16,384 bytes, four for each latency, low byte first, any other length being refusal 2."
 pub(crate) fn judged<R: Disk>(
     rt: &R,
     asked: Asked,
     wanted: bool,
-    read: bool,
     trace: &[u8],
-    got: bool,
     table: &[u8],
     out: &[u8],
 ) -> Said
-    ensures { ByStored (on_files asked wanted (file_of read trace.now) (file_of got table.now)) result }
+    ensures { ByStored (on_files asked wanted (Some trace.now) (Some table.now)) result }
 {
-    let mut latencies = no_latencies();
+    let mut latencies = files::no_latencies();
     let fits = table::decode(table, &mut latencies);
-    match decided::ready(read, got, fits) {
-        Readiness::Ended(said) => said,
-        Readiness::Both => concluded(rt, asked, wanted, trace, &latencies, out),
+    match decided::ready(true, true, fits) {
+        Err(said) => said,
+        Ok(()) => concluded(rt, asked, wanted, trace, &latencies, out),
     }
 }

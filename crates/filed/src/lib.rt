@@ -5,7 +5,6 @@
 mod judged;
 mod print;
 
-ghost use Rattle.std.specs.Prelude.{length, ◌≡◌};
 ghost use Rattle.files.specs.Told.{ByFiles};
 ghost use Rattle.filed.specs.Filed.{on_files};
 
@@ -14,20 +13,7 @@ use paper::Asked;
 pub use print::say;
 use report::Said;
 
-// Of a file that is too long one byte too many is read, which tells.
-fn trace_buffer() -> [u8; 65537]
-    ensures { length result ≡ 65537 }
-{
-    [0; 65537]
-}
-
-fn table_buffer() -> [u8; 16385]
-    ensures { length result ≡ 16385 }
-{
-    [0; 16385]
-}
-
-// The files by their names. Where the written trace is not wanted, the name `out` is not looked at.
+// The files by their names: the table's is not waited for where the trace can't be read. Where the written trace is not wanted, the name `out` is not looked at.
 pub fn judge_files<R: Disk>(
     rt: &R,
     asked: Asked,
@@ -38,21 +24,13 @@ pub fn judge_files<R: Disk>(
 ) -> Said
     ensures { ByFiles (on_files asked wanted) result }
 {
-    let mut bytes = trace_buffer();
-    let mut held = table_buffer();
-    let first = files::load(rt, trace, &mut bytes);
-    let read = first.ok;
-    let second = files::load_behind(rt, read, table, &mut held);
-    let n = first.len;
-    let m = second.len;
-    judged::judged(
-        rt,
-        asked,
-        wanted,
-        read,
-        &bytes[..n],
-        second.ok,
-        &held[..m],
-        out,
-    )
+    let mut bytes = files::trace_buffer();
+    let mut held = files::table_buffer();
+    let Some(n) = files::load(rt, trace, &mut bytes) else {
+        return Said::CannotRead;
+    };
+    let Some(m) = files::load(rt, table, &mut held) else {
+        return Said::CannotRead;
+    };
+    judged::judged(rt, asked, wanted, &bytes[..n], &held[..m], out)
 }

@@ -1,9 +1,9 @@
 -- What the system told leaves one answer: whoever is told the same says the same.
+use Rattle.std.specs.Prelude.{Option}
 use Prim.Native.Nat.{ℕ}
 use mathlib.Core.Path.{◌≡◌, sym, ◌∙◌}
 use mathlib.Core.Bool.{Bool}
 use mathlib.Core.List.{List}
-use mathlib.Core.Option.{Option}
 use Rattle.files.specs.Told.{ByStored, ByFiles}
 
 module _ {A : Type 0} {a b : A} where

@@ -1,8 +1,7 @@
 -- A file as it could be read.
-use Rattle.std.specs.Prelude.{ℕ, Bool, true, false, List}
-use Rattle.std.proofs.Math.Option.{Option, none, some}
+use Rattle.std.specs.Prelude.{ℕ, Bool, true, false, List, Option, Some, None}
 
 -- its bytes, or none where it can't be read
 unfoldable pub file_of : (read : Bool) → List ℕ → Option (List ℕ)
-file_of true bytes = some bytes
-file_of false bytes = none
+file_of true bytes = Some bytes
+file_of false bytes = None

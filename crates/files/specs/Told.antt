@@ -1,6 +1,5 @@
 -- What a function leaves that asks the system for files: its answer, by what the system told it.
-use Rattle.std.specs.Prelude.{ℕ, ◌≡◌, Bool, List}
-use Rattle.std.proofs.Math.Option.{Option}
+use Rattle.std.specs.Prelude.{ℕ, ◌≡◌, Bool, List, Option}
 
 -- by whether a file could be written
 pub record ByStored {A : Type 0} (by : Bool → A) (answer : A) : Type 0 where

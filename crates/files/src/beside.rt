@@ -3,7 +3,7 @@
 use crate::system::{Disk, Standing};
 use crate::{say, system};
 use std::fs::{File, OpenFile, Permissions};
-use std::io::{Error, ErrorKind, Result, Write};
+use std::io::{Error, ErrorKind, Write};
 use std::os::unix::fs::{PermissionsExt, fchown};
 use std::rt::Files;
 
@@ -19,50 +19,43 @@ const LETTERS: &[u8; 62] = b"abcdefghijklmnopqrstuvwxyzABCDEFGHIJKLMNOPQRSTUVWXY
 
 const TRIES: u8 = 255;
 
-// Forbidden: the system does not let the file be replaced, and it is as it was.
+// Why a text was not stored. Forbidden: the system does not let the file be replaced, and it is as it was.
 #[derive(Drop)]
-pub enum Outcome {
-    Done,
+pub enum Unstored {
     Failed,
     Forbidden,
 }
 
+// A right that is missing, or a mount in the way, is no failure of the disk: the file may still be written over.
+impl From<Error> for Unstored {
+    fn from(error: Error) -> Unstored {
+        match error.raw_os_error() {
+            Some(EACCES | EPERM | EBUSY) => Unstored::Forbidden,
+            _ => Unstored::Failed,
+        }
+    }
+}
+
 // A file where there is none.
-pub fn create<R: Disk>(rt: &R, name: &[u8], text: &[u8]) -> bool {
+pub fn create<R: Disk>(rt: &R, name: &[u8], text: &[u8]) -> Result<(), Unstored> {
     let mut space = io::buffer();
-    let n = paths::beside(name, &mut space);
-    if n == 0 {
-        return false;
-    }
-    let outcome = create_by(rt, &mut space[..n], name, text);
-    match outcome {
-        Outcome::Done => true,
-        Outcome::Failed => false,
-        Outcome::Forbidden => false,
-    }
+    let n = paths::beside(name, &mut space).ok_or(Unstored::Failed)?;
+    create_by(rt, &mut space[..n], name, text)
 }
 
 // The free name is one that `create_temp` found. The file is made anew under it, since `create_temp`'s is for its owner alone, and a new
 // file's mode is the umask's to say.
-fn create_by<R: Disk>(rt: &R, beside: &mut [u8], name: &[u8], text: &[u8]) -> Outcome {
-    match create_temp(rt, beside) {
-        Ok(_) => {}
-        Err(error) => return refused(error),
-    }
+fn create_by<R: Disk>(rt: &R, beside: &mut [u8], name: &[u8], text: &[u8]) -> Result<(), Unstored> {
+    drop(create_temp(rt, beside)?);
     remove(rt, beside);
-    match system::create(rt, beside, 0o666) {
-        Ok(file) => complete(rt, file, beside, name, text),
-        Err(error) => refused(error),
-    }
+    let file = system::create(rt, beside, 0o666)?;
+    complete(rt, file, beside, name, text)
 }
 
 // A file for one that stands there, with its owner and its mode.
-pub fn replace<R: Disk>(rt: &R, name: &[u8], old: Standing, text: &[u8]) -> Outcome {
+pub fn replace<R: Disk>(rt: &R, name: &[u8], old: Standing, text: &[u8]) -> Result<(), Unstored> {
     let mut space = io::buffer();
-    let n = paths::beside(name, &mut space);
-    if n == 0 {
-        return Outcome::Forbidden;
-    }
+    let n = paths::beside(name, &mut space).ok_or(Unstored::Forbidden)?;
     replace_by(rt, &mut space[..n], name, old, text)
 }
 
@@ -72,31 +65,18 @@ fn replace_by<R: Disk>(
     name: &[u8],
     old: Standing,
     text: &[u8],
-) -> Outcome {
-    match create_temp(rt, beside) {
-        Ok(file) => replace_with(rt, file, beside, name, old, text),
-        Err(error) => refused(error),
-    }
-}
-
-fn replace_with<R: Disk>(
-    rt: &R,
-    file: File,
-    beside: &[u8],
-    name: &[u8],
-    old: Standing,
-    text: &[u8],
-) -> Outcome {
+) -> Result<(), Unstored> {
+    let file = create_temp(rt, beside)?;
     if !made_like(&file, old) {
         drop(file);
         remove(rt, beside);
-        return Outcome::Forbidden;
+        return Err(Unstored::Forbidden);
     }
     complete(rt, file, beside, name, text)
 }
 
 // A new file that its owner alone may open, under a name that was free: the last six bytes of `beside` are made letters of such a name.
-fn create_temp<R: Disk>(rt: &R, beside: &mut [u8]) -> Result<File> {
+fn create_temp<R: Disk>(rt: &R, beside: &mut [u8]) -> std::io::Result<File> {
     for attempt in 0..TRIES {
         make_name(rt, beside, attempt);
         match system::create(rt, beside, 0o600) {
@@ -111,62 +91,63 @@ fn create_temp<R: Disk>(rt: &R, beside: &mut [u8]) -> Result<File> {
 fn make_name<R: Disk>(rt: &R, beside: &mut [u8], attempt: u8) {
     let mut bytes = [attempt; 6];
     let _ = rt.fill_bytes(&mut bytes);
-    let Some(start) = beside.len().checked_sub(6) else {
+    let Some(places) = beside.last_chunk_mut::<6>() else {
         return;
     };
-    for i in 0..6 {
-        beside[start + i] = letter(bytes[i]);
+    for (place, byte) in places.iter_mut().zip(&bytes) {
+        *place = letter(*byte);
     }
 }
 
 fn letter(byte: u8) -> u8 {
-    LETTERS[(byte % 62) as usize]
+    LETTERS[usize::from(byte % 62)]
 }
 
 // The owner first: a change of owner takes bits of the mode away. What was done is looked at, since a mode may be narrowed in silence.
 fn made_like(file: &File, old: Standing) -> bool {
     let _ = fchown(file, Some(old.owner), Some(old.group));
     let _ = file.set_permissions(Permissions::from_mode(old.mode & 0o7777));
-    let new = system::known_of(file);
-    if new.owner != old.owner {
+    let Ok(new) = system::known_of(file) else {
         return false;
+    };
+    new.owner == old.owner && new.group == old.group && new.mode == old.mode
+}
+
+// The file takes the name, or goes.
+fn complete<R: Files>(
+    rt: &R,
+    file: File,
+    beside: &[u8],
+    name: &[u8],
+    text: &[u8],
+) -> Result<(), Unstored> {
+    let placed = place(rt, file, beside, name, text);
+    if placed.is_ok() {
+        sync_folder(rt, name);
+    } else {
+        remove(rt, beside);
     }
-    if new.group != old.group {
-        return false;
-    }
-    new.mode == old.mode
+    placed
 }
 
 // The text is on the disk before the name is given.
-fn complete<R: Files>(rt: &R, file: File, beside: &[u8], name: &[u8], text: &[u8]) -> Outcome {
-    if !filled(file, text) {
-        remove(rt, beside);
-        return Outcome::Failed;
+fn place<R: Files>(
+    rt: &R,
+    file: File,
+    beside: &[u8],
+    name: &[u8],
+    text: &[u8],
+) -> Result<(), Unstored> {
+    if fill(file, text).is_err() {
+        return Err(Unstored::Failed);
     }
-    match system::rename(rt, beside, name) {
-        Ok(()) => {
-            sync_folder(rt, name);
-            Outcome::Done
-        }
-        Err(error) => {
-            remove(rt, beside);
-            refused(error)
-        }
-    }
+    Ok(system::rename(rt, beside, name)?)
 }
 
-fn filled(mut file: File, text: &[u8]) -> bool {
-    let written = file.write_all(text).is_ok();
-    let synced = file.sync_all().is_ok();
-    written && synced
-}
-
-// A right that is missing, or a mount in the way, is no failure of the disk: the file may still be written over.
-fn refused(error: Error) -> Outcome {
-    match paths::number(error) {
-        EACCES | EPERM | EBUSY => Outcome::Forbidden,
-        _ => Outcome::Failed,
-    }
+fn fill(mut file: File, text: &[u8]) -> std::io::Result<()> {
+    let written = file.write_all(text);
+    file.sync_all()?;
+    written
 }
 
 fn remove<R: Files>(rt: &R, name: &[u8]) {
@@ -181,7 +162,7 @@ fn sync_folder<R: Files>(rt: &R, name: &[u8]) {
     if n == 0 {
         sync(rt, b".");
     } else {
-        sync(rt, &name[0..n]);
+        sync(rt, &name[..n]);
     }
 }
 

@@ -4,12 +4,14 @@
 
 mod beside;
 mod in_place;
+mod lent;
 mod limit;
 mod read;
 mod say;
 mod system;
 mod write;
 
-pub use read::{Loaded, load, load_behind};
+pub use lent::{no_latencies, table_buffer, trace_buffer};
+pub use read::load;
 pub use system::Disk;
 pub use write::{store, store_asked};

@@ -13,7 +13,7 @@ pub trait Disk: Files<File = File> + RandomSource {}
 
 impl<R: Files<File = File> + RandomSource> Disk for R {}
 
-// What is kept where a file takes the place of another, and how many names it has. A blank says "no file".
+// What is kept where a file takes the place of another, and how many names it has.
 #[derive(Drop)]
 pub struct Standing {
     pub mode: u32,
@@ -22,34 +22,20 @@ pub struct Standing {
     pub links: u64,
 }
 
-pub fn known_of(file: &File) -> Standing {
-    match file.metadata() {
-        Ok(known) => Standing {
-            mode: known.mode(),
-            owner: known.uid(),
-            group: known.gid(),
-            links: known.nlink(),
-        },
-        Err(_) => blank(),
-    }
-}
-
-fn blank() -> Standing {
-    Standing {
-        mode: 0,
-        owner: 0,
-        group: 0,
-        links: 0,
-    }
+pub fn known_of(file: &File) -> Result<Standing> {
+    let known = file.metadata()?;
+    Ok(Standing {
+        mode: known.mode(),
+        owner: known.uid(),
+        group: known.gid(),
+        links: known.nlink(),
+    })
 }
 
 // Whether the process may write a file of this length. Beyond it the system ends the process, or fails each write. Where it tells no
 // limit, there is none.
 pub fn allows<R: Files>(rt: &R, length: usize) -> bool {
-    match limit(rt) {
-        Some(most) => length as u64 <= most,
-        None => true,
-    }
+    limit(rt).is_none_or(|most| length as u64 <= most)
 }
 
 fn limit<R: Files>(rt: &R) -> Option<u64> {

@@ -1,47 +1,28 @@
 -- What is given with a pair, over the spans that the code keeps; and the loop: the words that are left give, with what was given, the
 -- whole.
+use Rattle.std.specs.Prelude.{Option, Result, Some, None, Err, is_some}
 use Prim.Native.Nat.{ℕ, ◌+◌, ◌-◌, ◌≤◌, ◌<◌}
 use mathlib.Core.Path.{◌≡◌, refl, sym, ap, ◌∙◌}
 use mathlib.Core.Bool.{Bool, true, false, cond, ◌&&◌, not}
 use mathlib.Core.List.{List, [], ◌∷◌}
-use mathlib.Core.Option.{Option, none, some}
 use native.Mathlib.Omega.{arith}
 use lib.ListN.{length, drop, length-drop, drop_of_length-le}
 use lib.Dec.{leb}
-use borrow.Author.Tests.{lt-ltb, leb-true, leb-false}
+use borrow.Author.Tests.{leb-true, leb-false}
 use Rattle.named.specs.Words.{words_of}
-use Rattle.named.specs.Values.{name_of, forgotten, good_for}
+use Rattle.named.specs.Values.{name_of, forgotten}
 use Rattle.flags.specs.Plan.{Values, no_values, value_of, with_value, is_given, accepts, taken, concluded, on_pair, plan_from, plan_of}
-use Rattle.named.specs.Parts.{cut, Within, WordAt, found_in}
-use Rattle.flags.specs.Spans.{plan_in, Planned}
-use Rattle.flags.specs.Parts.{no_span, no_spans, span_of, with_span, filled, value_in, values_in, Held, accepted, turn_in, Turned}
+use Rattle.named.specs.Parts.{cut, Within, WordAt}
+use Rattle.flags.specs.Spans.{value_in, plan_in, Planned}
+use Rattle.flags.specs.Parts.{no_spans, span_of, with_span, values_in, Held, accepted, turn_in, Turned}
 use Rattle.named.specs.declared.Span.{Span}
 use Rattle.named.specs.declared.Name.{Name}
 use Rattle.named.specs.declared.Name.TheVariants.{Choice, Trace, Table, Levels, Statistics, Share, Out}
-use Rattle.flags.specs.declared.Plan.{Plan}
-use Rattle.named.specs.declared.names.Found.{Found}
-use Rattle.named.specs.declared.names.Found.TheVariants.{Is, Unknown}
 use Rattle.flags.specs.declared.given.Given.{Given}
-use Rattle.flags.specs.declared.turn.Turn.{Turn}
-use Rattle.flags.specs.declared.turn.Turn.TheVariants.{Bad, Next}
 use Rattle.named.proofs.Cuts.{none_first, first_word}
 use Rattle.named.proofs.Forms.{empty_bad}
-
--- ---- the tests of a pair
-
-module _ (given : Given) (name : Name) (value : List ℕ) {old : Bool} (tells : old ≡ filled (span_of name given)) where
-  pub given_before : old ≡ true → false ≡ accepted given name value
-  unfolding accepted
-  given_before e = rw (sym tells ∙ e)
-
-  module _ (new : old ≡ false) {told : Bool} (left_out : told ≡ forgotten value) where
-    pub value_forgotten : told ≡ true → false ≡ accepted given name value
-    unfolding accepted
-    value_forgotten e = rw (sym tells ∙ new, sym left_out ∙ e)
-
-    pub by_form : {good : Bool} → told ≡ false → good ≡ good_for name value → good ≡ accepted given name value
-    unfolding accepted
-    by_form e g = g ∙ rw (sym tells ∙ new, sym left_out ∙ e)
+use Rattle.flags.specs.declared.Lack.{Lack}
+use Rattle.flags.specs.declared.Wishes.{Wishes}
 
 -- ---- spans and values
 
@@ -56,27 +37,24 @@ module _ (line : List ℕ) where
   value_there Share given = refl
   value_there Out given = refl
 
-  given_there : (span : Span) → is_given (value_in line span) ≡ filled span
+  given_there : (span : Option Span) → is_given (value_in line span) ≡ is_some span
   unfolding is_given value_in
-  given_there span = go (filled span)
-    where
-      go : (t : Bool) → is_given (cond t (some (cut line span)) none) ≡ t
-      go true = refl
-      go false = refl
+  given_there None = refl
+  given_there (Some span) = refl
 
   accepted_there : (given : Given) (name : Name) (value : List ℕ) → accepts name value (values_in line given) ≡ accepted given name value
   unfolding accepts accepted
   accepted_there given name value = rw (value_there name given, given_there (span_of name given))
 
-  with_there : (name : Name) (span : Span) (given : Given) → filled span ≡ true → with_value name (cut line span) (values_in line given) ≡ values_in line (with_span name span given)
+  with_there : (name : Name) (span : Span) (given : Given) → with_value name (cut line span) (values_in line given) ≡ values_in line (with_span name span given)
   unfolding with_value values_in with_span value_in
-  with_there Choice span given e = rw e
-  with_there Trace span given e = rw e
-  with_there Table span given e = rw e
-  with_there Levels span given e = rw e
-  with_there Statistics span given e = rw e
-  with_there Share span given e = rw e
-  with_there Out span given e = rw e
+  with_there Choice span given = refl
+  with_there Trace span given = refl
+  with_there Table span given = refl
+  with_there Levels span given = refl
+  with_there Statistics span given = refl
+  with_there Share span given = refl
+  with_there Out span given = refl
 
   held_with : (name : Name) (span : Span) (given : Given) → Held line given → Within line span → Held line (with_span name span given)
   unfolding with_span
@@ -88,77 +66,52 @@ module _ (line : List ℕ) where
   held_with Share span given h w = record { choice = h.choice; trace = h.trace; table = h.table; levels = h.levels; statistics = h.statistics; share = w; out = h.out }
   held_with Out span given h w = record { choice = h.choice; trace = h.trace; table = h.table; levels = h.levels; statistics = h.statistics; share = h.share; out = w }
 
-  -- no good value is empty
-  good_filled : (name : Name) (span : Span) → good_for name (cut line span) ≡ true → filled span ≡ true
-  unfolding filled cut
-  good_filled name span e = lt-ltb span.from span.to (go (leb span.to span.from) refl)
-    where
-      go : (t : Bool) → leb span.to span.from ≡ t → span.from < span.to
-      go false q = leb-false span.to span.from q
-      go true q =
-          let h = leb-true span.to span.from q in
-          let none_left : span.to - span.from ≡ 0 = omega arith in
-          let never : good_for name [] ≡ true = rw none_left at e in
-          let empty = empty_bad name in
-          absurd (let q : ◌≡◌ {A = ℕ} 0 1 = cc in omega arith)
-
-accepted_good : (given : Given) (name : Name) (value : List ℕ) → accepted given name value ≡ true → good_for name value ≡ true
-unfolding accepted
-accepted_good given name value e = go (filled (span_of name given)) (forgotten value) e
-  where
-    go : (a b : Bool) → (not a && (not b && good_for name value)) ≡ true → good_for name value ≡ true
-    go true b e = cc
-    go false true e = cc
-    go false false e = e
-
 -- ---- a pair taken
 
 module _ (line : List ℕ) (given : Given) (name value : Span) where
-  refuses : none ≡ taken (name_of (cut line name)) (cut line value) (values_in line given) → Turned line given name value Bad
+  refuses : None ≡ taken (name_of (cut line name)) (cut line value) (values_in line given) → Turned line given name value None
   unfolding turn_in
-  refuses e = record { is = e; held = λ next q. absurd (let r : ◌≡◌ {A = ℕ} 0 1 = cc in omega arith) }
+  refuses e = record { is = e; held = λ next q. cc }
 
-  module _ {found : Found} (tells : found_in found ≡ name_of (cut line name)) where
-    pub unknown : found ≡ Unknown → Turned line given name value Bad
-    unfolding found_in taken
+  module _ {found : Option Name} (tells : found ≡ name_of (cut line name)) where
+    pub unknown : found ≡ None → Turned line given name value None
+    unfolding taken
     unknown e = refuses (rw (← tells, e))
 
-    module _ {known : Name} (is_name : found ≡ Is known) {told : Bool} (test : told ≡ accepted given known (cut line value)) where
-      name_there : name_of (cut line name) ≡ some known
-      unfolding found_in
-      name_there = sym tells ∙ ap found_in is_name
+    module _ {known : Name} (is_name : found ≡ Some known) {told : Bool} (test : told ≡ accepted given known (cut line value)) where
+      name_there : name_of (cut line name) ≡ Some known
+      name_there = sym tells ∙ is_name
 
       test_there : (t : Bool) → told ≡ t → accepts known (cut line value) (values_in line given) ≡ t
       test_there t e = accepted_there line given known (cut line value) ∙ sym test ∙ e
 
-      pub refused : told ≡ false → Turned line given name value Bad
+      pub refused : told ≡ false → Turned line given name value None
       unfolding taken
       refused e = refuses (rw (name_there, test_there false e))
 
-      pub goes_on_lem : {next : Given} → told ≡ true → Held line given → Within line value → next ≡ with_span known value given → Turned line given name value (Next next)
+      pub goes_on_lem : {next : Given} → told ≡ true → Held line given → Within line value → next ≡ with_span known value given → Turned line given name value (Some next)
       unfolding taken turn_in
       goes_on_lem {next} e held inside is =
-          let good = good_filled line known value (accepted_good given known (cut line value) (sym test ∙ e)) in
           record {
-            is = rw (name_there, test_there true e, is, with_there line known value given good);
+            is = rw (name_there, test_there true e, is, with_there line known value given);
             held = λ other q. let same : other ≡ with_span known value given = cc in rw same (held_with line known value given held inside);
           }
 
 -- ---- the loop
 
 -- a name at the end of the line has an empty value, and is refused
-none_taken : (name : Option Name) (v : Values) → taken name [] v ≡ none
+none_taken : (name : Option Name) (v : Values) → taken name [] v ≡ None
 unfolding taken accepts
-none_taken none v = refl
-none_taken (some name) v = rw (empty_bad name) (go (is_given (value_of name v)) (forgotten []))
+none_taken None v = refl
+none_taken (Some name) v = rw (empty_bad name) (go (is_given (value_of name v)) (forgotten []))
   where
-    go : (a b : Bool) → cond (not a && (not b && false)) (some (with_value name [] v)) none ≡ none
+    go : (a b : Bool) → cond (not a && (not b && false)) (Some (with_value name [] v)) None ≡ None
     go true b = refl
     go false true = refl
     go false false = refl
 
 none_given : (line : List ℕ) → values_in line no_spans ≡ no_values
-unfolding values_in no_spans no_span no_values value_in filled
+unfolding values_in no_spans no_values value_in
 none_given line = refl
 
 pub record Going (separator : ℕ) (line : List ℕ) (given : Given) (at : ℕ) : Type 0 where
@@ -166,28 +119,24 @@ pub record Going (separator : ℕ) (line : List ℕ) (given : Given) (at : ℕ) 
   pub inside : at ≤ length line + 1
   pub left : plan_from (values_in line given) (words_of separator (drop at line)) ≡ plan_of (words_of separator line)
 
-nowhere : (line : List ℕ) → Within line no_span
-unfolding no_span
-nowhere line = record { ordered = omega arith; inside = omega arith }
-
 pub going_start : (separator : ℕ) (line : List ℕ) {given : Given} → given ≡ no_spans → Going separator line given 0
 unfolding no_spans plan_of
 going_start separator line e =
     rw e (record {
-      held = record { choice = nowhere line; trace = nowhere line; table = nowhere line; levels = nowhere line; statistics = nowhere line; share = nowhere line; out = nowhere line };
+      held = record { choice = tt; trace = tt; table = tt; levels = tt; statistics = tt; share = tt; out = tt };
       inside = omega arith;
       left = rw (none_given line);
     })
 
 module _ {separator : ℕ} {line : List ℕ} {given : Given} {at : ℕ} (going : Going separator line given at) where
-  pub at_end : {plan : Plan} → length line ≤ at → Planned line (concluded (values_in line given)) plan → Planned line (plan_of (words_of separator line)) plan
+  pub at_end : {plan : Result Wishes Lack} → length line ≤ at → Planned line (concluded (values_in line given)) plan → Planned line (plan_of (words_of separator line)) plan
   unfolding plan_from words_of
   at_end h p =
       let over : drop at line ≡ [] = drop_of_length-le line h in
       let all : concluded (values_in line given) ≡ plan_of (words_of separator line) = rw over at going.left in
       rw (← all) p
 
-  module _ {name value : Span} {turn : Turn} (some_left : at < length line) (first : WordAt separator line at name) (second : WordAt separator line (name.to + 1) value)
+  module _ {name value : Span} {turn : Option Given} (some_left : at < length line) (first : WordAt separator line at name) (second : WordAt separator line (name.to + 1) value)
       (turned : Turned line given name value turn) where
     -- the words from the name's place on, told by the name and what stands behind it
     name_first : words_of separator (drop at line) ≡ cut line name ∷ words_of separator (drop (name.to + 1) line)
@@ -213,16 +162,16 @@ module _ {separator : ℕ} {line : List ℕ} {given : Given} {at : ℕ} (going :
     all_here : on_pair (cut line name) (turn_in line turn) (λ more. plan_from more (words_of separator (drop (value.to + 1) line))) ≡ plan_of (words_of separator line)
     all_here = sym (ap (plan_from (values_in line given)) name_first ∙ pair_here) ∙ going.left
 
-    pub pair_bad : turn ≡ Bad → Planned line (plan_of (words_of separator line)) (Plan.Bad name)
+    pub pair_bad : turn ≡ None → Planned line (plan_of (words_of separator line)) (Err (Lack.Bad name))
     unfolding plan_in on_pair turn_in
     pair_bad e =
         record {
           is = rw e at all_here;
           word_within = λ word q. let same : word ≡ name = cc in rw same first.within;
-          wishes_within = λ wishes q. absurd (let r : ◌≡◌ {A = ℕ} 0 1 = cc in omega arith);
+          wishes_within = λ wishes q. cc;
         }
 
-    pub pair_good : {next : Given} → turn ≡ Next next → Going separator line next (value.to + 1)
+    pub pair_good : {next : Given} → turn ≡ Some next → Going separator line next (value.to + 1)
     unfolding on_pair turn_in
     pair_good {next} e = record { held = turned.held next e; inside = omega (arith, second.within.inside); left = rw e at all_here }
 

@@ -1,81 +1,82 @@
 // What was given so far: a span for each name.
 ghost use Rattle.std.specs.Prelude.{◌≡◌};
-ghost use Rattle.flags.specs.Parts.{no_spans, span_of, with_span, filled};
+ghost use Rattle.flags.specs.Parts.{no_spans, span_of, with_span};
 
 use named::{Name, Span};
 
-// No good value is empty, and so an empty span stands for a name that was not given.
 #[derive(Clone, Copy)]
 pub(crate) struct Given {
-    pub choice: Span,
-    pub trace: Span,
-    pub table: Span,
-    pub levels: Span,
-    pub statistics: Span,
-    pub share: Span,
-    pub out: Span,
+    pub choice: Option<Span>,
+    pub trace: Option<Span>,
+    pub table: Option<Span>,
+    pub levels: Option<Span>,
+    pub statistics: Option<Span>,
+    pub share: Option<Span>,
+    pub out: Option<Span>,
 }
 
+#[tactic(auto, unfolding(crate::specs::Parts::no_spans))]
 pub(crate) fn nothing() -> Given
     ensures { result ≡ no_spans }
 {
     Given {
-        choice: Span { from: 0, to: 0 },
-        trace: Span { from: 0, to: 0 },
-        table: Span { from: 0, to: 0 },
-        levels: Span { from: 0, to: 0 },
-        statistics: Span { from: 0, to: 0 },
-        share: Span { from: 0, to: 0 },
-        out: Span { from: 0, to: 0 },
+        choice: None,
+        trace: None,
+        table: None,
+        levels: None,
+        statistics: None,
+        share: None,
+        out: None,
     }
 }
 
-pub(crate) fn is_given(given: Given, name: Name) -> bool
-    ensures { result ≡ filled (span_of name given) }
+#[tactic(auto, unfolding(crate::specs::Parts::span_of))]
+pub(crate) fn span_of(given: Given, name: Name) -> Option<Span>
+    ensures { result ≡ span_of name given }
 {
     match name {
-        Name::Choice => given.choice.from < given.choice.to,
-        Name::Trace => given.trace.from < given.trace.to,
-        Name::Table => given.table.from < given.table.to,
-        Name::Levels => given.levels.from < given.levels.to,
-        Name::Statistics => given.statistics.from < given.statistics.to,
-        Name::Share => given.share.from < given.share.to,
-        Name::Out => given.out.from < given.out.to,
+        Name::Choice => given.choice,
+        Name::Trace => given.trace,
+        Name::Table => given.table,
+        Name::Levels => given.levels,
+        Name::Statistics => given.statistics,
+        Name::Share => given.share,
+        Name::Out => given.out,
     }
 }
 
+#[tactic(auto, unfolding(crate::specs::Parts::with_span))]
 pub(crate) fn with_span(given: Given, name: Name, span: Span) -> Given
     ensures { result ≡ with_span name span given }
 {
-    let mut next = given;
     match name {
-        Name::Choice => {
-            next.choice = span;
-            next
-        }
-        Name::Trace => {
-            next.trace = span;
-            next
-        }
-        Name::Table => {
-            next.table = span;
-            next
-        }
-        Name::Levels => {
-            next.levels = span;
-            next
-        }
-        Name::Statistics => {
-            next.statistics = span;
-            next
-        }
-        Name::Share => {
-            next.share = span;
-            next
-        }
-        Name::Out => {
-            next.out = span;
-            next
-        }
+        Name::Choice => Given {
+            choice: Some(span),
+            ..given
+        },
+        Name::Trace => Given {
+            trace: Some(span),
+            ..given
+        },
+        Name::Table => Given {
+            table: Some(span),
+            ..given
+        },
+        Name::Levels => Given {
+            levels: Some(span),
+            ..given
+        },
+        Name::Statistics => Given {
+            statistics: Some(span),
+            ..given
+        },
+        Name::Share => Given {
+            share: Some(span),
+            ..given
+        },
+        Name::Out => Given {
+            out: Some(span),
+            ..given
+        },
     }
 }

@@ -7,11 +7,10 @@ mod read;
 ghost use Rattle.std.specs.Prelude.{◌≡◌};
 ghost use Rattle.paper.specs.Forms.{whole_of, time_of};
 
-use paper::Field;
 pub use read::has_minus;
 
 // "Whole number: optional minus, digits, no leading zero, no "-0", size at most 999,999,999."
-pub fn read_whole(s: &[u8]) -> Field
+pub fn read_whole(s: &[u8]) -> Option<i64>
     ensures { result ≡ whole_of s.now }
 {
     if read::has_minus(s) {
@@ -22,7 +21,7 @@ pub fn read_whole(s: &[u8]) -> Field
 }
 
 // "Time: optional minus, a whole part of 1 to 9 digits without a leading zero (a single 0 is good), a point, six digits."
-pub fn read_time(s: &[u8]) -> Field
+pub fn read_time(s: &[u8]) -> Option<i64>
     ensures { result ≡ time_of s.now }
 {
     if read::has_minus(s) {

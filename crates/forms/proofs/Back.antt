@@ -1,10 +1,10 @@
 -- There and back: a time that the format holds is read back from what is written for it, and every good field is what is written
 -- for its time. What is written has no foreign byte and is 8 to 17 bytes long.
+use Rattle.std.specs.Prelude.{Some}
 use Prim.Native.Nat.{ℕ, zero, suc, ◌+◌, ◌-◌, ◌*◌, ◌/◌, ◌%◌, ◌^◌, ◌≤◌, ◌<◌}
 use mathlib.Core.Path.{◌≡◌, refl, ap, ◌∙◌}
 use mathlib.Core.List.{List, [], ◌∷◌, ◌++◌}
 use mathlib.Core.Bool.{Bool, true, false, cond}
-use mathlib.Core.Option.{some}
 use native.Mathlib.Nat.{pow-suc, mul_assoc}
 use native.Mathlib.Omega.{arith}
 use lib.ListN.{length, get_or, length-append, get_or-append}
@@ -12,7 +12,6 @@ use lib.Seq.{take_at, drop-append-add, get_or_at}
 use lib.IntN.{ℤ, pos, negsuc, nat_abs}
 use lib.Dec.{leb}
 use borrow.Author.Tests.{le-leb, ne_eqb, leb-true, leb-false}
-use Rattle.paper.specs.declared.Field.TheVariants.{Good}
 use Rattle.paper.specs.Forms.{is_digit, digits_from, unled, has_minus, signed, behind_sign, time_size, time_of, fixed, places_from, size_shown, time_shown}
 use Rattle.forms.specs.Sizes.{whole_part}
 use Rattle.forms.specs.Free.{Free, foreign}
@@ -50,9 +49,9 @@ is_digit_lem n = rw (le-leb 48 (n % 10 + 48) (omega arith), le-leb (n % 10 + 48)
 sum : (v p n : ℕ) → (v * p + n / 10) * 10 + (n % 10 + 48 - 48) ≡ v * (p * 10) + n
 sum v p n = omega (arith, mul_assoc v p 10)
 
-digits_back : (k v n : ℕ) → n < 10 ^ k → digits_from v (fixed k n) ≡ some (v * 10 ^ k + n)
+digits_back : (k v n : ℕ) → n < 10 ^ k → digits_from v (fixed k n) ≡ Some (v * 10 ^ k + n)
 unfolding fixed digits_from onward
-digits_back zero v n h = ap some (omega arith)
+digits_back zero v n h = ap Some (omega arith)
 digits_back (suc k) v n h =
     rw (joined v (fixed k (n / 10)) ((n % 10 + 48) ∷ []), digits_back k v (n / 10) (omega (arith, pow-suc 10 k)), is_digit_lem n, pow-suc 10 k, ← sum v (10 ^ k) n)
 
@@ -71,14 +70,14 @@ lead_digit zero n g h = omega arith
 lead_digit (suc j) n g h = rw (before_last j n) (lead_digit j (n / 10) (omega (arith, pow-suc 10 j)) (omega (arith, pow-suc 10 (suc j))))
 
 -- digits in as many places as the number has are a good part
-part_back : (k n : ℕ) → 1 ≤ k → Places n k → whole_part (fixed k n) ≡ some n
+part_back : (k n : ℕ) → 1 ≤ k → Places n k → whole_part (fixed k n) ≡ Some n
 unfolding whole_part unled fixed
 part_back zero n l p = absurd (omega arith)
-part_back (suc zero) n l p = digits_back 1 0 n p.holds ∙ ap some (omega arith)
+part_back (suc zero) n l p = digits_back 1 0 n p.holds ∙ ap Some (omega arith)
 part_back (suc (suc j)) n l p =
     part_led (fixed (suc (suc j)) n) (λ e. omega (arith, length_fixed (suc (suc j)) n)) (λ e. omega (arith, lead_digit (suc j) n (p.leads j refl) p.holds))
     ∙ digits_back (suc (suc j)) 0 n p.holds
-    ∙ ap some (omega arith)
+    ∙ ap Some (omega arith)
 
 -- ---- a whole part a, a point and six digits b
 
@@ -91,13 +90,13 @@ module _ (a b : List ℕ) (la : length a ≤ 9) (lb : length b ≡ 6) where
       in_parts (a ++ (46 ∷ b)) (rw length-append (omega arith)) (rw point_at_lem (get_or_at a 46 b 0 (length a) refl))
       ∙ rw (point_at_lem, take_at a (46 ∷ b) (length a) refl, drop-append-add a (46 ∷ b) 1)
 
-size_back : (n : ℕ) → n ≤ 999999999999999 → time_size (size_shown n) ≡ some n
+size_back : (n : ℕ) → n ≤ 999999999999999 → time_size (size_shown n) ≡ Some n
 unfolding size_shown onward
 size_back n h =
     let w = n / 1000000 in
     let k = places_from 8 w in
     parts_back (fixed k w) (fixed 6 (n % 1000000)) (rw length_fixed (places_high 8 w)) (length_fixed 6 (n % 1000000))
-    ∙ rw (part_back k w (places_low 8 w) (places_of 8 w (omega arith)), digits_back 6 w (n % 1000000) (omega arith)) (ap some (omega arith))
+    ∙ rw (part_back k w (places_low 8 w) (places_of 8 w (omega arith)), digits_back 6 w (n % 1000000) (omega arith)) (ap Some (omega arith))
 
 head_byte : (n : ℕ) → 48 ≤ get_or (size_shown n) 0 0
 unfolding size_shown
@@ -113,12 +112,12 @@ head_byte n =
 
 -- ---- times
 
-pub there_and_back : (z : ℤ) → nat_abs z ≤ 999999999999999 → time_of (time_shown z) ≡ Good z
+pub there_and_back : (z : ℤ) → nat_abs z ≤ 999999999999999 → time_of (time_shown z) ≡ Some z
 unfolding time_of time_shown behind_sign has_minus signed
 there_and_back (pos n) h = rw (ne_eqb (get_or (size_shown n) 0 0) 45 (λ e. omega (arith, head_byte n)), size_back n h)
 there_and_back (negsuc n) h = rw (size_back (suc n) h)
 
-pub back_and_there : (s : List ℕ) (z : ℤ) → time_of s ≡ Good z → s ≡ time_shown z
+pub back_and_there : (s : List ℕ) (z : ℤ) → time_of s ≡ Some z → s ≡ time_shown z
 back_and_there s z e = one_time_field s (time_shown z) z e (there_and_back z (time_in_range s z e))
 
 -- ---- the bytes of what is written

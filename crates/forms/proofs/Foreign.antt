@@ -1,9 +1,9 @@
 -- Bytes that stand in no number and no time: none of them is among digits, in a good part or in a good time without its sign.
+use Rattle.std.specs.Prelude.{Some}
 use Prim.Native.Nat.{ℕ, ◌+◌, ◌-◌, ◌*◌, ◌≤◌}
 use mathlib.Core.Path.{◌≡◌, sym}
 use mathlib.Core.List.{List, [], ◌∷◌, ◌++◌}
 use mathlib.Core.Bool.{true, false, not, ◌&&◌}
-use mathlib.Core.Option.{some}
 use lib.ListN.{take, drop}
 use lib.Dec.{eqb}
 use borrow.Author.Tests.{le-leb, eqb-false, not-true}
@@ -41,15 +41,15 @@ module _ (b : ℕ) (f : foreign b ≡ true) where
   pub foreign_point : 46 ≡ b → ⊥
   foreign_point e = tests.2 (sym e)
 
-  pub digits_free : (v n : ℕ) (s : List ℕ) → digits_from v s ≡ some n → Free b s
+  pub digits_free : (v n : ℕ) (s : List ℕ) → digits_from v s ≡ Some n → Free b s
   unfolding Free
   digits_free v n [] e = tt
   digits_free v n (d ∷ s) e = let p = first v d s e in (foreign_digit p.0 p.1, digits_free (v * 10 + (d - 48)) n s p.2)
 
-  pub part_free : (s : List ℕ) (n : ℕ) → whole_part s ≡ some n → Free b s
+  pub part_free : (s : List ℕ) (n : ℕ) → whole_part s ≡ Some n → Free b s
   part_free s n e = digits_free 0 n s (good_part s n e).reads
 
-  pub parts_free : (s : List ℕ) (n : ℕ) → time_size s ≡ some n → Free b s
+  pub parts_free : (s : List ℕ) (n : ℕ) → time_size s ≡ Some n → Free b s
   unfolding Free
   parts_free s n e =
       let t = good_time s n e in

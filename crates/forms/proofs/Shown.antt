@@ -1,11 +1,10 @@
 -- Laws of what is written: the length of each part, and the number of places that a number has.
-use Prim.Native.Nat.{ℕ, zero, suc, ◌+◌, ◌-◌, ◌*◌, ◌/◌, ◌^◌, ◌≤◌, ◌<◌}
+use Prim.Native.Nat.{ℕ, zero, suc, ◌+◌, ◌-◌, ◌/◌, ◌^◌, ◌≤◌, ◌<◌}
 use mathlib.Core.Path.{◌≡◌, refl, sym}
 use mathlib.Core.List.{◌++◌}
 use mathlib.Core.Bool.{Bool, true, false, cond}
 use mathlib.Core.Logic.{◌⊎◌, inl, inr}
-use native.Mathlib.Numerals.{add-one}
-use native.Mathlib.Nat.{pow-suc, eq-or-lt_of_le, lt_of_not-le}
+use native.Mathlib.Nat.{eq-or-lt_of_le}
 use native.Mathlib.Omega.{arith}
 use lib.ListN.{length, length-append}
 use lib.IntN.{ℤ, pos, negsuc, nat_abs}
@@ -35,17 +34,6 @@ counted (suc most) n k l h p q = go (eq-or-lt_of_le h) (λ g. counted most n k l
         power : k - 1 ≡ suc most
         power = omega arith
     go (inr g) f = rw (lt-leb (10 ^ suc most) n (omega (arith, cap k (suc most) (omega arith)))) (f (omega arith))
-
--- a turn of the loop that counts them
-module _ (k n power : ℕ) (h : n < 10 ^ 9) (e : power ≡ 10 ^ k) (p : power ≤ n) where
-  pub place_left : k + 1 ≤ 9
-  place_left = omega (arith, lt_of_not-le {n = 9} {m = k} (λ g. omega (arith, cap 9 k g)))
-
-  pub next_power : power * 10 ≡ 10 ^ (k + 1)
-  next_power = rw (add-one, pow-suc, e)
-
-  pub too_large : 1 < k + 1 → 10 ^ (k + 1 - 1) ≤ n
-  too_large g = let one : k + 1 - 1 ≡ k = omega arith in rw (one, ← e) p
 
 pub places_low : (most n : ℕ) → 1 ≤ places_from most n
 unfolding places_from

@@ -1,9 +1,9 @@
 -- Laws of the time without its sign: a whole part, a point, six digits.
+use Rattle.std.specs.Prelude.{Option, Some, None}
 use Prim.Native.Nat.{ℕ, ◌+◌, ◌-◌, ◌^◌, ◌≤◌, ◌<◌}
 use mathlib.Core.Path.{◌≡◌, refl, ap, sym, ◌∙◌}
 use mathlib.Core.List.{List, ◌∷◌, ◌++◌}
 use mathlib.Core.Bool.{Bool, true, false, cond, ◌&&◌, and-true, and-false}
-use mathlib.Core.Option.{Option, none, some}
 use native.Mathlib.Numerals.{add-one}
 use native.Mathlib.Nat.{sub-zero}
 use native.Mathlib.Omega.{arith}
@@ -25,15 +25,15 @@ point_at s = length s - 7
 -- ---- the ways of the code
 
 module _ (s : List ℕ) where
-  pub time_short : length s < 8 → time_size s ≡ none
+  pub time_short : length s < 8 → time_size s ≡ None
   unfolding time_size unled
   time_short h = let z : length s - 7 ≡ 0 = omega arith in rw (le-leb (length s) 16 (omega arith), z)
 
-  pub time_long : 16 < length s → time_size s ≡ none
+  pub time_long : 16 < length s → time_size s ≡ None
   unfolding time_size
   time_long h = rw (lt-leb (length s) 16)
 
-  pub pointless : (get_or s (point_at s) 0 ≡ 46 → ⊥) → time_size s ≡ none
+  pub pointless : (get_or s (point_at s) 0 ≡ 46 → ⊥) → time_size s ≡ None
   unfolding time_size
   pointless p = rw (ne_eqb (get_or s (point_at s) 0) 46, and-false)
 
@@ -41,7 +41,7 @@ module _ (s : List ℕ) where
   unfolding time_size whole_part onward
   in_parts h p = rw (le-leb (length s) 16, eq-eqb (get_or s (point_at s) 0) 46, and-true, joined) (go (unled (take (point_at s) s)))
     where
-      go : (t : Bool) → cond t (onward (digits_from 0 (take (point_at s) s)) (drop (point_at s + 1) s)) none ≡ onward (cond t (digits_from 0 (take (point_at s) s)) none) (drop (point_at s + 1) s)
+      go : (t : Bool) → cond t (onward (digits_from 0 (take (point_at s) s)) (drop (point_at s + 1) s)) None ≡ onward (cond t (digits_from 0 (take (point_at s) s)) None) (drop (point_at s + 1) s)
       go true = refl
       go false = refl
 
@@ -50,11 +50,11 @@ module _ (s : List ℕ) where
     whole_read : o ≡ whole_part (take (point_at s) s)
     whole_read = rw sub-zero at e
 
-    pub whole_bad : o ≡ none → none ≡ time_size s
+    pub whole_bad : o ≡ None → None ≡ time_size s
     unfolding onward
     whole_bad b = sym (in_parts h p ∙ rw (← whole_read, b))
 
-    module _ (v : ℕ) (b : o ≡ some v) where
+    module _ (v : ℕ) (b : o ≡ Some v) where
       pub whole_below : v < 10 ^ 9
       unfolding AtMost
       whole_below = omega (arith, part_range (take (point_at s) s) (simp length-take (omega arith)) v (sym whole_read ∙ b))
@@ -70,10 +70,10 @@ pub record Time (s : List ℕ) (n : ℕ) : Type 0 where
   pub most : length s ≤ 16
   pub point : get_or s (point_at s) 0 ≡ 46
   pub seconds : ℕ
-  pub whole : whole_part (take (point_at s) s) ≡ some seconds
-  pub rest : digits_from seconds (drop (point_at s + 1) s) ≡ some n
+  pub whole : whole_part (take (point_at s) s) ≡ Some seconds
+  pub rest : digits_from seconds (drop (point_at s + 1) s) ≡ Some n
 
-pub good_time : (s : List ℕ) (n : ℕ) → time_size s ≡ some n → Time s n
+pub good_time : (s : List ℕ) (n : ℕ) → time_size s ≡ Some n → Time s n
 unfolding time_size onward
 good_time s n e =
     let form = leb (length s) 16 && unled (take (point_at s) s) in
@@ -83,9 +83,9 @@ good_time s n e =
     let d = eqb-true (get_or s (point_at s) 0) 46 q.1 in
     go h d (whole_part (take (point_at s) s)) refl (sym (in_parts s h d) ∙ e)
   where
-    go : length s ≤ 16 → get_or s (point_at s) 0 ≡ 46 → (o : Option ℕ) → whole_part (take (point_at s) s) ≡ o → onward o (drop (point_at s + 1) s) ≡ some n → Time s n
-    go h d none w r = never (cc)
-    go h d (some v) w r =
+    go : length s ≤ 16 → get_or s (point_at s) 0 ≡ 46 → (o : Option ℕ) → whole_part (take (point_at s) s) ≡ o → onward o (drop (point_at s + 1) s) ≡ Some n → Time s n
+    go h d None w r = never (cc)
+    go h d (Some v) w r =
         let l = simp length-take at (good_part (take (point_at s) s) v w).some_digit in
         record { least = omega arith; most = h; point = d; seconds = v; whole = w; rest = r }
 
@@ -107,10 +107,10 @@ time_range s n e =
     omega (arith, rw (six t) at (below t.seconds 9 n (drop (point_at s + 1) s) t.rest v))
 
 -- no two times without a sign read as the same number
-pub one_time : (s u : List ℕ) (n : ℕ) → time_size s ≡ some n → time_size u ≡ some n → s ≡ u
+pub one_time : (s u : List ℕ) (n : ℕ) → time_size s ≡ Some n → time_size u ≡ Some n → s ≡ u
 one_time s u n p q =
     let a = good_time s n p in
     let b = good_time u n q in
     let r = apart a.seconds b.seconds n (drop (point_at s + 1) s) (drop (point_at u + 1) u) (six a ∙ sym (six b)) a.rest b.rest in
-    let w = one_part (take (point_at s) s) (take (point_at u) u) a.seconds a.whole (b.whole ∙ ap some (sym r.0)) in
+    let w = one_part (take (point_at s) s) (take (point_at u) u) a.seconds a.whole (b.whole ∙ ap Some (sym r.0)) in
     split a ∙ rw (w, r.1) (sym (split b))

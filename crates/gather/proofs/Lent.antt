@@ -1,10 +1,10 @@
 -- What a merging comes to does not depend on what stood in the lent room, only on its length; and it never says that more was written than
 -- the room holds, so that the part of the room that goes to the file is there.
+use Rattle.std.specs.Prelude.{Option, Result, Some, None, Ok, Err}
 use Prim.Native.Nat.{ℕ, ◌≤◌}
 use mathlib.Core.Path.{◌≡◌, refl, sym, ◌∙◌}
 use mathlib.Core.Bool.{Bool, true, false, cond}
 use mathlib.Core.List.{List}
-use mathlib.Core.Option.{Option, none, some}
 use native.Mathlib.Omega.{arith}
 use lib.ListN.{length, length-replicate}
 use lib.Seq.{length-take-le}
@@ -13,14 +13,13 @@ use borrow.Author.Tests.{ltb-false}
 use Rattle.paper.specs.Answer.{choice_of}
 use Rattle.paper.specs.Columns.{nowhere}
 use Rattle.paper.specs.Merging.{Merging, Mergence, unmerged, joined, merged_bytes, both_of, on_merged, on_both, on_heard, join, merged_of}
-use Rattle.paper.specs.declared.Both.{Both}
-use Rattle.paper.specs.declared.Both.TheVariants.{Unfit, Apart}
 use Rattle.paper.specs.declared.Choice.{Choice}
 use Rattle.paper.specs.declared.Fault.TheVariants as Fault
 use Rattle.paper.specs.declared.Tally.{Tally}
 use Rattle.paper.specs.declared.Which.TheVariants.{Neither}
 use Rattle.gather.specs.Program.{lent_room, joint_of}
 use Rattle.gather.specs.Joined.{JoinedInto}
+use Rattle.paper.specs.declared.Unmerged.{Unmerged}
 
 -- ---- another room of that length
 
@@ -36,15 +35,15 @@ module _ (choice : ℕ) (first second : List ℕ) where
     ends a b bytes true = refl
     ends a b bytes false = refl
 
-    read : (x : Both) → (on_both (on room) x).joint ≡ (on_both (on room') x).joint
+    read : (x : Result (Tally × Tally) Unmerged) → (on_both (on room) x).joint ≡ (on_both (on room') x).joint
     unfolding on_both on_merged unmerged
-    read (Unfit fault which site) = refl
-    read (Apart a b) = let bytes = merged_bytes first second in rw (← wide) (ends a b bytes (ltb (length room) (length bytes)))
+    read (Err why) = refl
+    read (Ok (a, b)) = let bytes = merged_bytes first second in rw (← wide) (ends a b bytes (ltb (length room) (length bytes)))
 
     heard : (h : Option Choice) → (on_heard (on room) h).joint ≡ (on_heard (on room') h).joint
     unfolding on_heard unmerged
-    heard none = refl
-    heard (some c) = read (both_of c first second)
+    heard None = refl
+    heard (Some c) = read (both_of c first second)
 
     same_joint : (join (on room)).joint ≡ (join (on room')).joint
     unfolding join
@@ -59,16 +58,16 @@ module _ (i : Merging) where
   put_within a b bytes true e = omega arith
   put_within a b bytes false e = ltb-false (length i.room) (length bytes) e
 
-  read_within : (x : Both) → (merged_of (on_both i x).joint).written ≤ length i.room
+  read_within : (x : Result (Tally × Tally) Unmerged) → (merged_of (on_both i x).joint).written ≤ length i.room
   unfolding merged_of on_both on_merged unmerged
-  read_within (Unfit fault which site) = omega arith
-  read_within (Apart a b) =
+  read_within (Err why) = omega arith
+  read_within (Ok (a, b)) =
       let bytes = merged_bytes i.first i.second in put_within a b bytes (ltb (length i.room) (length bytes)) refl
 
   heard_within : (h : Option Choice) → (merged_of (on_heard i h).joint).written ≤ length i.room
   unfolding merged_of on_heard unmerged
-  heard_within none = omega arith
-  heard_within (some c) = read_within (both_of c i.first i.second)
+  heard_within None = omega arith
+  heard_within (Some c) = read_within (both_of c i.first i.second)
 
   within : (merged_of (join i).joint).written ≤ length i.room
   unfolding join

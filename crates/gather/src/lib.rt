@@ -6,14 +6,14 @@
 mod print;
 mod traces;
 
-ghost use Rattle.std.specs.Prelude.{length, ◌≡◌};
+ghost use Rattle.std.specs.Prelude.{◌≡◌};
 ghost use Rattle.paper.specs.Merging.{merged_of};
 ghost use Rattle.files.specs.Told.{ByFiles};
 ghost use Rattle.gather.specs.Program.{bad_choice, on_files, replied_of};
 
-use arguments::Plan;
+use arguments::Misuse;
 use files::Disk;
-use paper::{Fault, Joint, Merged, Which};
+use paper::{Fault, Merged, Unmerged, Which};
 use report::Replied;
 use std::rt::Env;
 
@@ -63,36 +63,34 @@ fn performed<R: Disk>(
     ensures { ByFiles (replied_of count choice.now) result }
 {
     match arguments::planned(count, choice) {
-        Plan::BadChoice => Replied::Refused(bad_choice()),
-        Plan::TooMany => Replied::TooMany,
-        Plan::Unnamed => Replied::CannotRead,
-        Plan::Judge(choice, _) => merge_files(rt, choice, first, second, out),
+        Err(Misuse::BadChoice) => Replied::Refused(bad_choice()),
+        Err(Misuse::TooMany) => Replied::TooMany,
+        Err(Misuse::Unnamed) => Replied::CannotRead,
+        Ok((choice, _)) => merge_files(rt, choice, first, second, out),
     }
 }
 
 fn bad_choice() -> Merged
     ensures { result ≡ merged_of bad_choice }
 {
-    merging::told(Joint::Refused(Fault::BadChoice, Which::Neither, answer::nowhere()))
+    merging::told(Err(Unmerged {
+        fault: Fault::BadChoice,
+        which: Which::Neither,
+        site: answer::nowhere(),
+    }))
 }
 
-// Of a file that is too long one byte too many is read, which tells.
-fn trace_buffer() -> [u8; 65537]
-    ensures { length result ≡ 65537 }
-{
-    [0; 65537]
-}
-
-// The files by their names.
+// The files by their names: the second is not waited for where the first can't be read.
 fn merge_files<R: Disk>(rt: &R, choice: u32, first: &[u8], second: &[u8], out: &[u8]) -> Replied
     ensures { ByFiles (on_files choice) result }
 {
-    let mut one = trace_buffer();
-    let mut other = trace_buffer();
-    let a = files::load(rt, first, &mut one);
-    let read = a.ok;
-    let b = files::load_behind(rt, read, second, &mut other);
-    let n = a.len;
-    let m = b.len;
-    traces::of_both(rt, choice, read, &one[..n], b.ok, &other[..m], out)
+    let mut one = files::trace_buffer();
+    let mut other = files::trace_buffer();
+    let Some(n) = files::load(rt, first, &mut one) else {
+        return Replied::CannotRead;
+    };
+    let Some(m) = files::load(rt, second, &mut other) else {
+        return Replied::CannotRead;
+    };
+    traces::of_both(rt, choice, &one[..n], &other[..m], out)
 }

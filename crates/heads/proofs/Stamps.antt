@@ -1,9 +1,9 @@
 -- The timestamp of a line, and where the line ends.
+use Rattle.std.specs.Prelude.{Option, Some, None}
 use Prim.Native.Nat.{ℕ, ◌+◌, ◌-◌, ◌≤◌, ◌<◌}
 use native.Mathlib.Omega.{arith}
 use mathlib.Core.Path.{◌≡◌, refl, sym, ◌∙◌}
 use mathlib.Core.List.{List, []}
-use mathlib.Core.Option.{some}
 use lib.ListN.{length, take, drop, drop_of_length-le}
 use lib.IntN.{ℤ, pos}
 use borrow.Author.Tests.{le-leb, lt-leb}
@@ -11,42 +11,38 @@ use Rattle.octets.specs.Octets.{index_of}
 use Rattle.paper.specs.Forms.{time_of, behind_sign, has_minus, time_size, unled, signed}
 use Rattle.paper.specs.Line.{field, after, rest, nothing, first, first_of}
 use Rattle.paper.specs.Merging.{stamp_of}
-use Rattle.paper.specs.declared.Field.{Field}
-use Rattle.paper.specs.declared.Field.TheVariants.{Good, Bad}
 use Rattle.forms.proofs.Tests.{never}
 use Rattle.reading.specs.Places.{line_at, next_line}
 use Rattle.reading.proofs.Found.{line_here, next_here}
 use Rattle.stamps.specs.Stamps.{Place}
 use Rattle.field.specs.Cursor.{read_as, rest_at, got_of, got_next, Tells}
 use Rattle.field.specs.declared.Form.TheVariants.{Time}
-use Rattle.field.specs.declared.Got.{Got}
-use Rattle.field.specs.declared.Got.TheVariants.{Value, Nothing}
 use Rattle.field.proofs.Cursors.{inside, got, not_got}
 use Rattle.heads.specs.Heads.{end_in, HeadAt}
 
 -- ---- the third field
 
-module _ (l : List ℕ) (at : ℕ) (third : Place l (after (after l)) at) (r : Got) (told : Tells l (got_of l r) (first_of (read_as Time) (rest_at l at)) (got_next r)) where
+module _ (l : List ℕ) (at : ℕ) (third : Place l (after (after l)) at) (r : Option (ℤ × ℕ)) (told : Tells l (got_of l r) (first_of (read_as Time) (rest_at l at)) (got_next r)) where
   -- the field that was read
-  read_third : first_of (read_as Time) (rest_at l at) ≡ first_of time_of (some (after (after l)))
+  read_third : first_of (read_as Time) (rest_at l at) ≡ first_of time_of (Some (after (after l)))
   unfolding read_as
   read_third = rw (inside l at third.inside, third.from)
 
-  pub stamp_good : (v : ℤ) (next : ℕ) → r ≡ Value v next → {t : ℤ} → t ≡ v → t ≡ stamp_of l
+  pub stamp_good : (v : ℤ) (next : ℕ) → r ≡ Some (v, next) → {t : ℤ} → t ≡ v → t ≡ stamp_of l
   unfolding stamp_of first_of
   stamp_good v next e same = same ∙ go (time_of (field (after (after l)))) refl (sym read_third ∙ got l r _ told v next e)
     where
-      go : (x : Field) → time_of (field (after (after l))) ≡ x → first_of time_of (some (after (after l))) ≡ first v (rest_at l next) → v ≡ stamp_of l
-      go (Good t) p q = let is : first t (rest (after (after l))) ≡ first v (rest_at l next) = rw p at q in let same : t ≡ v = cc in rw p (sym same)
-      go Bad p q = let none = rw p at q in never (cc)
+      go : (x : Option ℤ) → time_of (field (after (after l))) ≡ x → first_of time_of (Some (after (after l))) ≡ first v (rest_at l next) → v ≡ stamp_of l
+      go (Some t) p q = let is : first t (rest (after (after l))) ≡ first v (rest_at l next) = rw p at q in let same : t ≡ v = cc in rw p (sym same)
+      go None p q = let none = rw p at q in never (cc)
 
-  pub stamp_none : r ≡ Nothing → pos 0 ≡ stamp_of l
+  pub stamp_none : r ≡ None → pos 0 ≡ stamp_of l
   unfolding stamp_of first_of
   stamp_none e = go (time_of (field (after (after l)))) refl (sym read_third ∙ not_got l r _ told e)
     where
-      go : (x : Field) → time_of (field (after (after l))) ≡ x → first_of time_of (some (after (after l))) ≡ nothing → pos 0 ≡ stamp_of l
-      go (Good t) p q = let some_time = rw p at q in never (cc)
-      go Bad p q = rw p
+      go : (x : Option ℤ) → time_of (field (after (after l))) ≡ x → first_of time_of (Some (after (after l))) ≡ nothing → pos 0 ≡ stamp_of l
+      go (Some t) p q = let some_time = rw p at q in never (cc)
+      go None p q = rw p
 
 -- ---- where the line ends
 

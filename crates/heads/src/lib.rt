@@ -6,7 +6,7 @@ ghost use Rattle.std.specs.Int.Signed.{le_z};
 ghost use Rattle.paper.specs.Merging.{stamp_of};
 ghost use Rattle.heads.specs.Heads.{HeadAt};
 
-use field::{Form, Got};
+use field::Form;
 
 // The line is s[from..to], with its LF.
 #[derive(Clone, Copy)]
@@ -22,8 +22,8 @@ fn stamp(l: &[u8]) -> i64
 {
     let at = stamps::third_field(l, 0);
     match field::value_at(l, at, Form::Time) {
-        Got::Value(time, _) => time,
-        Got::Nothing => 0,
+        Some((time, _)) => time,
+        None => 0,
     }
 }
 
@@ -41,16 +41,17 @@ pub fn head_at(s: &[u8], at: usize) -> Head
     let end = octets::find(s, at, 10);
     let time = stamp(&s[at..end]);
     if end == s.len() {
-        return Head {
+        Head {
             from: at,
             to: end,
-            time: time,
-        };
-    }
-    Head {
-        from: at,
-        to: end + 1,
-        time: time,
+            time,
+        }
+    } else {
+        Head {
+            from: at,
+            to: end + 1,
+            time,
+        }
     }
 }
 
@@ -58,8 +59,5 @@ pub fn head_at(s: &[u8], at: usize) -> Head
 pub fn first_goes(a: Head, b: Head) -> bool
     ensures { result ≡ le_z a.time b.time }
 {
-    if signed::earlier(b.time, a.time) {
-        return false;
-    }
-    true
+    a.time <= b.time
 }

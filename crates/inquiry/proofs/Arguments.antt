@@ -1,4 +1,5 @@
 -- What the arguments ask for, by the tests told.
+use Rattle.std.specs.Prelude.{Result, Ok, Err}
 use Prim.Native.Nat.{ℕ, ◌≤◌, ◌<◌}
 use mathlib.Core.Path.{◌≡◌, sym, ◌∙◌}
 use mathlib.Core.Bool.{Bool, true, false}
@@ -9,14 +10,13 @@ use Rattle.paper.specs.declared.Answer.{Answer}
 use Rattle.paper.specs.declared.Asked.{Asked}
 use Rattle.paper.specs.declared.Fault.TheVariants as Fault
 use Rattle.answer.specs.Answers.{refusal}
-use Rattle.arguments.specs.declared.Plan.{Plan}
 use Rattle.arguments.specs.Arguments.{plan_of, choice_and_share}
 use Rattle.named.specs.Values.{share_of}
 use Rattle.report.specs.declared.Said.TheVariants as Said
 use Rattle.inquiry.specs.Arguments.{too_many, without_share, share_in, on_plan, start_of}
 use Rattle.showing.specs.declared.Shows.{Shows}
 use Rattle.showing.specs.declared.Shows.TheVariants.{Messages, Reasons}
-use Rattle.inquiry.specs.declared.begun.Start.TheVariants.{Ended, Judge}
+use Rattle.arguments.specs.declared.Misuse.{Misuse}
 
 -- ---- the share
 
@@ -45,30 +45,30 @@ module _ (count : ℕ) (word : List ℕ) where
 
 -- ---- the plan
 
-module _ (shows : Shows) (count : ℕ) (choice share : List ℕ) {but : ℕ} {plan : Plan} (less : but ≡ without_share shows count)
+module _ (shows : Shows) (count : ℕ) (choice share : List ℕ) {but : ℕ} {plan : Result (ℕ × Bool) Misuse} (less : but ≡ without_share shows count)
     (planned : plan ≡ plan_of but choice) where
-  plan_is : (is : Plan) → plan ≡ is → plan_of (without_share shows count) choice ≡ is
+  plan_is : (is : Result (ℕ × Bool) Misuse) → plan ≡ is → plan_of (without_share shows count) choice ≡ is
   plan_is is e = rw (← less) (sym planned ∙ e)
 
-  pub refuses : {answer : Answer} → plan ≡ Plan.BadChoice → answer ≡ refusal Fault.BadChoice nowhere
-      → Ended (Said.Answered answer) ≡ start_of shows count choice share
+  pub refuses : {answer : Answer} → plan ≡ Err Misuse.BadChoice → answer ≡ refusal Fault.BadChoice nowhere
+      → Err (Said.Answered answer) ≡ start_of shows count choice share
   unfolding start_of on_plan
   refuses e a = rw (plan_is _ e, a)
 
-  pub says_many : plan ≡ Plan.TooMany → Ended Said.TooMany ≡ start_of shows count choice share
+  pub says_many : plan ≡ Err Misuse.TooMany → Err Said.TooMany ≡ start_of shows count choice share
   unfolding start_of on_plan
   says_many e = rw (plan_is _ e)
 
-  pub says_unnamed : plan ≡ Plan.Unnamed → Ended Said.CannotRead ≡ start_of shows count choice share
+  pub says_unnamed : plan ≡ Err Misuse.Unnamed → Err Said.CannotRead ≡ start_of shows count choice share
   unfolding start_of on_plan
   says_unnamed e = rw (plan_is _ e)
 
-  module _ {which : ℕ} {more t : Bool} (e : plan ≡ Plan.Judge which more) (tested : t ≡ too_many shows more) where
-    pub one_more : t ≡ true → Ended Said.TooMany ≡ start_of shows count choice share
+  module _ {which : ℕ} {more t : Bool} (e : plan ≡ Ok (which, more)) (tested : t ≡ too_many shows more) where
+    pub one_more : t ≡ true → Err Said.TooMany ≡ start_of shows count choice share
     unfolding start_of on_plan
     one_more h = rw (plan_is _ e, sym tested ∙ h)
 
     pub judges : {kept : ℕ} {asked : Asked} → t ≡ false → kept ≡ share_in count share → asked ≡ choice_and_share which kept
-        → Judge asked ≡ start_of shows count choice share
+        → Ok asked ≡ start_of shows count choice share
     unfolding start_of on_plan
     judges h k a = rw (plan_is _ e, sym tested ∙ h, ← k, a)

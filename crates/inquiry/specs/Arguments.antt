@@ -1,17 +1,16 @@
 -- What the arguments ask for: those of `cantuvesh`, but that `why` has a line of the file as its fourth and may have a share as its
 -- fifth, and `messages` has no fourth.
-use Rattle.std.specs.Prelude.{ℕ, Bool, false, cond, List, eqb, ltb}
+use Rattle.std.specs.Prelude.{ℕ, Bool, false, cond, List, eqb, ltb, Result, Ok, Err}
 use Rattle.paper.specs.Columns.{nowhere}
 use Rattle.paper.specs.declared.Fault.TheVariants as Fault
 use Rattle.answer.specs.Answers.{refusal}
-use Rattle.arguments.specs.declared.Plan.{Plan}
 use Rattle.arguments.specs.Arguments.{plan_of, choice_and_share}
 use Rattle.named.specs.Values.{share_of}
-use Rattle.report.specs.declared.Said.TheVariants as Said
+use Rattle.report.specs.declared.Said.{Said}
 use Rattle.showing.specs.declared.Shows.{Shows}
 use Rattle.showing.specs.declared.Shows.TheVariants.{Messages, Reasons}
-use Rattle.inquiry.specs.declared.begun.Start.{Start}
-use Rattle.inquiry.specs.declared.begun.Start.TheVariants.{Ended, Judge}
+use Rattle.paper.specs.declared.Asked.{Asked}
+use Rattle.arguments.specs.declared.Misuse.{Misuse}
 
 unfoldable pub too_many : Shows → Bool → Bool
 too_many Messages more = more
@@ -26,12 +25,12 @@ without_share Reasons count = cond (eqb count 6) 5 count
 unfoldable pub share_in : (count : ℕ) (word : List ℕ) → ℕ
 share_in count word = cond (ltb 5 count) (share_of word) 0
 
-unfoldable pub on_plan : Shows → (share : ℕ) → Plan → Start
-on_plan shows share Plan.BadChoice = Ended (Said.Answered (refusal Fault.BadChoice nowhere))
-on_plan shows share Plan.TooMany = Ended Said.TooMany
-on_plan shows share Plan.Unnamed = Ended Said.CannotRead
-on_plan shows share (Plan.Judge choice more) = cond (too_many shows more) (Ended Said.TooMany) (Judge (choice_and_share choice share))
+unfoldable pub on_plan : Shows → (share : ℕ) → Result (ℕ × Bool) Misuse → Result Asked Said
+on_plan shows share (Err Misuse.BadChoice) = Err (Said.Answered (refusal Fault.BadChoice nowhere))
+on_plan shows share (Err Misuse.TooMany) = Err Said.TooMany
+on_plan shows share (Err Misuse.Unnamed) = Err Said.CannotRead
+on_plan shows share (Ok (choice, more)) = cond (too_many shows more) (Err Said.TooMany) (Ok (choice_and_share choice share))
 
 -- the choice first, then too many arguments, then a file that is not named
-unfoldable pub start_of : Shows → (count : ℕ) (choice share : List ℕ) → Start
+unfoldable pub start_of : Shows → (count : ℕ) (choice share : List ℕ) → Result Asked Said
 start_of shows count choice share = on_plan shows (share_in count share) (plan_of (without_share shows count) choice)

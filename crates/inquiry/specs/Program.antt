@@ -1,7 +1,6 @@
 -- What the programs `messages CHOICE TRACE TABLE` and `why CHOICE TRACE TABLE LINE [SHARE]` say, in their order. The system tells two
 -- things, which are given here: either file as it could be read.
-use Rattle.std.specs.Prelude.{ℕ, cond, List, length, eqb}
-use Rattle.std.proofs.Math.Option.{Option, none, some}
+use Rattle.std.specs.Prelude.{ℕ, cond, List, length, eqb, Option, Result, Some, None, Ok, Err}
 use Rattle.io.specs.Counts.{IsPrefixLen}
 use Rattle.paper.specs.Columns.{nowhere}
 use Rattle.paper.specs.declared.Asked.{Asked}
@@ -10,12 +9,10 @@ use Rattle.answer.specs.Answers.{refusal}
 use Rattle.table.specs.Table.{latencies_of}
 use Rattle.report.specs.Put.{Put}
 use Rattle.report.specs.Said.{said_shown}
-use Rattle.report.specs.declared.Said.TheVariants as Said
+use Rattle.report.specs.declared.Said.{Said}
 use Rattle.showing.specs.Shown.{on_trace}
 use Rattle.showing.specs.declared.Shows.{Shows}
 use Rattle.inquiry.specs.Arguments.{start_of}
-use Rattle.inquiry.specs.declared.begun.Start.{Start}
-use Rattle.inquiry.specs.declared.begun.Start.TheVariants.{Ended, Judge}
 
 -- ---- the files
 
@@ -27,15 +24,15 @@ on_table shows asked line trace table =
 
 -- either file that can't be read, before all else that is asked of them
 unfoldable pub on_files : Shows → Asked → (line : List ℕ) (trace table : Option (List ℕ)) → List ℕ
-on_files shows asked line none table = said_shown Said.CannotRead
-on_files shows asked line (some trace) none = said_shown Said.CannotRead
-on_files shows asked line (some trace) (some table) = on_table shows asked line trace table
+on_files shows asked line None table = said_shown Said.CannotRead
+on_files shows asked line (Some trace) None = said_shown Said.CannotRead
+on_files shows asked line (Some trace) (Some table) = on_table shows asked line trace table
 
 -- ---- the arguments
 
-unfoldable pub on_start : Shows → (line : List ℕ) → Start → (trace table : Option (List ℕ)) → List ℕ
-on_start shows line (Ended said) trace table = said_shown said
-on_start shows line (Judge asked) trace table = on_files shows asked line trace table
+unfoldable pub on_start : Shows → (line : List ℕ) → Result Asked Said → (trace table : Option (List ℕ)) → List ℕ
+on_start shows line (Err said) trace table = said_shown said
+on_start shows line (Ok asked) trace table = on_files shows asked line trace table
 
 unfoldable pub said_of : Shows → (count : ℕ) (choice line share : List ℕ) (trace table : Option (List ℕ)) → List ℕ
 said_of shows count choice line share trace table = on_start shows line (start_of shows count choice share) trace table

@@ -2,16 +2,10 @@
 ghost use Rattle.std.specs.Prelude.{◌≡◌};
 ghost use Rattle.inquiry.specs.Arguments.{too_many, without_share, share_in, start_of};
 
-use arguments::Plan;
+use arguments::Misuse;
 use paper::{Asked, Fault};
 use report::Said;
 use showing::Shows;
-
-#[derive(Clone, Copy)]
-pub(crate) enum Start {
-    Ended(Said),
-    Judge(Asked),
-}
 
 // A fourth argument is the line of `why`; `messages` has none.
 fn too_many(shows: Shows, more: bool) -> bool
@@ -47,22 +41,20 @@ fn share_in(count: usize, word: &[u8]) -> u32
     0
 }
 
-pub(crate) fn begun(shows: Shows, count: usize, choice: &[u8], share: &[u8]) -> Start
+pub(crate) fn begun(shows: Shows, count: usize, choice: &[u8], share: &[u8]) -> Result<Asked, Said>
     ensures { result ≡ start_of shows count choice.now share.now }
 {
     let but_share = without_share(shows, count);
     match arguments::planned(but_share, choice) {
-        Plan::BadChoice => {
-            Start::Ended(Said::Answered(answer::refused_nowhere(Fault::BadChoice)))
-        }
-        Plan::TooMany => Start::Ended(Said::TooMany),
-        Plan::Unnamed => Start::Ended(Said::CannotRead),
-        Plan::Judge(choice, more) => {
+        Err(Misuse::BadChoice) => { Err(Said::Answered(answer::refused_nowhere(Fault::BadChoice))) }
+        Err(Misuse::TooMany) => Err(Said::TooMany),
+        Err(Misuse::Unnamed) => Err(Said::CannotRead),
+        Ok((choice, more)) => {
             if too_many(shows, more) {
-                return Start::Ended(Said::TooMany);
+                return Err(Said::TooMany);
             }
             let kept = share_in(count, share);
-            Start::Judge(arguments::choice_and_share(choice, kept))
+            Ok(arguments::choice_and_share(choice, kept))
         }
     }
 }

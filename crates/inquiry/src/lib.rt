@@ -9,7 +9,6 @@ mod loaded;
 ghost use Rattle.std.specs.Prelude.{length, ◌≡◌};
 ghost use Rattle.inquiry.specs.Program.{TextInto, said_of};
 
-use begun::Start;
 use showing::Shows;
 use std::rt::{Env, Files};
 
@@ -99,7 +98,7 @@ fn performed<R: Files>(
     ensures { TextInto (said_of shows count choice.now line.now share.now) room.old result room.new }
 {
     match begun::begun(shows, count, choice, share) {
-        Start::Ended(said) => showing::say(said, room),
-        Start::Judge(asked) => loaded::of_names(rt, shows, asked, trace, table, line, room),
+        Err(said) => showing::say(said, room),
+        Ok(asked) => loaded::of_names(rt, shows, asked, trace, table, line, room),
     }
 }

@@ -1,12 +1,11 @@
 -- "then 16", and acceptance: what the ending of a call comes to, of a call that came so far.
-use Prim.Native.Nat.{ℕ, ◌-◌, ◌≤◌, ◌<◌}
-use native.Mathlib.Nat.{sub-zero}
+use Rattle.std.specs.Prelude.{Result, Some, Ok, Err}
+use Prim.Native.Nat.{ℕ, ◌≤◌, ◌<◌}
 use native.Mathlib.Omega.{arith}
 use mathlib.Core.Path.{◌≡◌, refl, sym, ap, ◌∙◌, subst}
 use mathlib.Core.List.{List, [], ◌++◌}
 use mathlib.Core.Bool.{Bool, true, false, cond, not}
 use mathlib.Core.Logic.{◌↔◌}
-use mathlib.Core.Option.{some}
 use lib.ListN.{length, take, drop}
 use lib.Seq.{ext_get_or}
 use lib.IntN.{ℤ, pos}
@@ -22,8 +21,8 @@ use Rattle.paper.specs.Written.{written_from}
 use Rattle.paper.specs.declared.Answer.{Answer}
 use Rattle.paper.specs.declared.Entry.{Entry}
 use Rattle.paper.specs.declared.Fault.{Fault}
+use Rattle.paper.specs.declared.Refusal.{Refusal}
 use Rattle.paper.specs.declared.Site.{Site}
-use Rattle.paper.specs.declared.Stop.TheVariants.{End}
 use Rattle.rounds.specs.Meaning as rounds
 use Rattle.rounds.proofs.Lists.{same_equal, equal_same}
 use Rattle.rounds.proofs.Meaning.{settled_answer}
@@ -32,19 +31,17 @@ use Rattle.store.proofs.Listed.{length_listed, listed_at}
 use Rattle.waits.proofs.Closed.{closed_waits}
 use Rattle.demands.proofs.InOrder.{few_entries, originals_range}
 use Rattle.demands.proofs.Rising.{between}
-use Rattle.reach.specs.declared.Reached.{Reached}
-use Rattle.reach.specs.declared.Reached.TheVariants.{Times, Refused, Misfit}
 use Rattle.reach.specs.Reach.{Held, reaches}
 use Rattle.reach.proofs.Means.{Means, found_means}
 use Rattle.writing.specs.Outcome.{WrittenInto}
-use Rattle.writing.specs.declared.Written.{Written}
-use Rattle.writing.specs.declared.Written.TheVariants.{Length}
 use Rattle.writing.proofs.Faithful.{Fits, bytes_written}
 use Rattle.writing.proofs.Outcomes.{Tells, wrote, no_room, misfit, told}
 use Rattle.answer.specs.declared.Counts.{Counts}
 use Rattle.answer.specs.Answers.{refusal, acceptance, verdict_by}
 use Rattle.ending.specs.Ending.{answer_for, placed, times_after, EndedBy}
 use Rattle.judge.specs.Call.{inputs, outcome, wrote_by, FinishedBy, WithPlaces, ConcludedBy}
+use Rattle.reach.specs.declared.Unreached.{Unreached}
+use Rattle.writing.specs.declared.Unwritten.{Unwritten}
 
 -- ---- a refusal
 
@@ -65,7 +62,7 @@ module _ (i : Inputs) (f : Found) (is : reach (given i) ≡ found f) where
   means : Means (given i) f
   means = found_means (given i) f is
 
-  whole : (read_of f.choice (most (given i)) i.trace).stop ≡ End
+  whole : (read_of f.choice (most (given i)) i.trace).stop ≡ Ok tt
   whole = ap (λ (r : Reading). r.stop) (sym means.reading) ∙ means.whole
 
   entries_are : es ≡ (read_of f.choice (most (given i)) i.trace).entries
@@ -144,8 +141,8 @@ module _ (i : Inputs) (f : Found) (is : reach (given i) ≡ found f) where
 
     module _ {r : Answer} {times' : List ℤ} where
       -- the ending by what was written
-      ended : (done : Written) (room' : List ℕ) → EndedBy counts done f.times i.times r times'
-          → (bytes : List ℕ) → Tells (some bytes) i.room done room' → outcome r times' room' ≡ on_written i f bytes
+      ended : (done : Result ℕ Unwritten) (room' : List ℕ) → EndedBy counts done f.times i.times r times'
+          → (bytes : List ℕ) → Tells (Some bytes) i.room done room' → outcome r times' room' ≡ on_written i f bytes
       unfolding on_written answer_for times_after placed acceptance refusal number_of
       ended done room' by bytes (wrote {word = word} e h) =
           let q : word ≡ bytes = cc in
@@ -175,49 +172,49 @@ module _ (i : Inputs) (f : Found) (is : reach (given i) ≡ found f) where
 -- ---- however far the call came
 
 module _ (counts : Counts) (trace store : List ℕ) (new times : List ℤ) {wanted : Bool} (room : List ℕ) {r : Answer} {times' : List ℤ} where
-  pub finished_wanted : wanted ≡ true → (done : Written) {room' : List ℕ} → WrittenInto trace store new room done room'
+  pub finished_wanted : wanted ≡ true → (done : Result ℕ Unwritten) {room' : List ℕ} → WrittenInto trace store new room done room'
       → EndedBy counts done new times r times'
       → FinishedBy counts trace store new times wanted room r times' room'
   unfolding wrote_by
   finished_wanted e done into ends = rw e (record { done = done; wrote = into; ends = ends })
 
-  pub finished_unasked : wanted ≡ false → EndedBy counts (Length 0) new times r times'
+  pub finished_unasked : wanted ≡ false → EndedBy counts (Ok 0) new times r times'
       → FinishedBy counts trace store new times wanted room r times' room
   unfolding wrote_by
-  finished_unasked e ends = rw e (record { done = Length 0; wrote = (refl, refl); ends = ends })
+  finished_unasked e ends = rw e (record { done = Ok 0; wrote = (refl, refl); ends = ends })
 
 -- the new times in front of their slice
-pub within : {reached : Reached} (new : List ℤ) → WithPlaces reached new → (counts : Counts) → reached ≡ Times counts → counts.listed ≤ length new
+pub within : {reached : Result Counts Unreached} (new : List ℤ) → WithPlaces reached new → (counts : Counts) → reached ≡ Ok counts → counts.listed ≤ length new
 unfolding WithPlaces
 within new enough counts e = rw e at enough
 
 module _ (trace store : List ℕ) (new times : List ℤ) (wanted : Bool) (room : List ℕ) (r : Answer) where
-  pub concluded_refused : {reached : Reached} (fault : Fault) (site : Site) → reached ≡ Refused fault site → r ≡ refusal fault site
+  pub concluded_refused : {reached : Result Counts Unreached} {refused : Refusal} {why : Unreached} → reached ≡ Err why
+      → why ≡ Unreached.Refused refused → r ≡ refusal refused.fault refused.site
       → ConcludedBy reached trace store new times wanted room r times room
   unfolding ConcludedBy reaches judge conclude
-  concluded_refused fault site e a latencies asked sends says =
+  concluded_refused {refused = it} e told a latencies asked sends says =
       let i = inputs trace latencies asked times wanted room in
-      let stops : reach (given i) ≡ stopped fault site = rw e at says in
-      rw (stops, a) (refused_is i fault site)
+      let stops : reach (given i) ≡ stopped it.fault it.site = rw (e, told) at says in
+      rw (stops, a) (refused_is i it.fault it.site)
 
-  pub concluded_never : {reached : Reached} → reached ≡ Misfit → ConcludedBy reached trace store new times wanted room r times room
+  pub concluded_never : {reached : Result Counts Unreached} {why : Unreached} → reached ≡ Err why → why ≡ Unreached.Misfit → ConcludedBy reached trace store new times wanted room r times room
   unfolding ConcludedBy reaches
-  concluded_never e latencies asked sends says = absurd (rw e at says)
+  concluded_never e told latencies asked sends says = absurd (rw (e, told) at says)
 
-  pub concluded_times : {reached : Reached} (counts : Counts) → reached ≡ Times counts → {times' : List ℤ} {room' : List ℕ}
-      → FinishedBy counts trace store (take (counts.listed - 0) new) times wanted room r times' room'
+  pub concluded_times : {reached : Result Counts Unreached} (counts : Counts) → reached ≡ Ok counts → {times' : List ℤ} {room' : List ℕ}
+      → FinishedBy counts trace store (take counts.listed new) times wanted room r times' room'
       → ConcludedBy reached trace store new times wanted room r times' room'
   unfolding ConcludedBy reaches judge conclude
   concluded_times counts e by latencies asked sends says =
       let i = inputs trace latencies asked times wanted room in
       let (f, is, held) = rw e at says in
-      let first : take (counts.listed - 0) new ≡ f.times = rw sub-zero held.new in
-      rw is (finished i f is counts store sends new held (rw first at by))
+      rw is (finished i f is counts store sends new held (rw held.new at by))
 
 -- a place for each listed record, of a call that came to its times
-pub with_places : (i : Inputs) (reached : Reached) (store sends : List ℕ) (new : List ℤ) → reaches i.trace (reach (given i)) reached store sends new
+pub with_places : (i : Inputs) (reached : Result Counts Unreached) (store sends : List ℕ) (new : List ℤ) → reaches i.trace (reach (given i)) reached store sends new
     → most (given i) ≤ length new → WithPlaces reached new
 unfolding WithPlaces reaches
-with_places i (Times counts) store sends new (f, is, held) long = omega (arith, held.listed, few i f is)
-with_places i (Refused fault site) store sends new says long = tt
-with_places i Misfit store sends new says long = tt
+with_places i (Ok counts) store sends new (f, is, held) long = omega (arith, held.listed, few i f is)
+with_places i (Err (Unreached.Refused refusal)) store sends new says long = tt
+with_places i (Err Unreached.Misfit) store sends new says long = tt

@@ -3,8 +3,7 @@ ghost use Rattle.judge.specs.Call.{FinishedBy, WithPlaces, ConcludedBy};
 
 use answer::Counts;
 use paper::{Answer, Fault};
-use reach::Reached;
-use writing::Written;
+use reach::Unreached;
 
 // The times were found: the trace written where it is wanted, and the answer by that.
 fn finish(
@@ -18,16 +17,16 @@ fn finish(
 ) -> Answer
     ensures { FinishedBy counts trace.now store.now new.now times.old wanted room.old result times.new room.new }
 {
-    if wanted {
-        let done = writing::write_trace(trace, store, new, room);
-        ending::answered(counts, done, new, times)
+    let done = if wanted {
+        writing::write_trace(trace, store, new, room)
     } else {
-        ending::answered(counts, Written::Length(0), new, times)
-    }
+        Ok(0)
+    };
+    ending::answered(counts, done, new, times)
 }
 
 pub(crate) fn conclude(
-    reached: Reached,
+    reached: Result<Counts, Unreached>,
     trace: &[u8],
     store: &[u32],
     new: &[i64],
@@ -39,12 +38,12 @@ pub(crate) fn conclude(
     ensures { ConcludedBy reached trace.now store.now new.now times.old wanted room.old result times.new room.new }
 {
     match reached {
-        Reached::Times(counts) => {
-            let listed = counts.listed;
-            finish(counts, trace, store, &new[0..listed], times, wanted, room)
+        Ok(counts) => {
+            let new = &new[..counts.listed];
+            finish(counts, trace, store, new, times, wanted, room)
         }
-        Reached::Refused(fault, site) => answer::refused(fault, site),
+        Err(Unreached::Refused(refusal)) => answer::refused(refusal.fault, refusal.site),
         // never: the slices of a call are made for as many records as it may list
-        Reached::Misfit => answer::refused_nowhere(Fault::NoTimes),
+        Err(Unreached::Misfit) => answer::refused_nowhere(Fault::NoTimes),
     }
 }

@@ -1,4 +1,3 @@
--- `Marks` and `Processors` are for the proofs of the functions; `Outcome` is that there is one answer.
-pub mod Marks
+-- `Processors` is for the proofs of the functions; `Outcome` is that there is one answer.
 pub mod Processors
 pub mod Outcome

@@ -1,29 +1,27 @@
 -- The processors one after the other: what the tables of their last records and marks come to.
+use Rattle.std.specs.Prelude.{Option, Result, Some, None, Ok, option_map, unwrap_or}
 use Prim.Native.Nat.{ℕ, suc, ◌+◌, ◌-◌, ◌<◌, ◌≤◌}
 use native.Mathlib.Omega.{arith}
 use native.Mathlib.Numerals.{add-one}
 use mathlib.Core.Path.{◌≡◌, refl, sym, ◌∙◌}
 use mathlib.Core.Bool.{Bool, true, false, cond, not}
 use mathlib.Core.List.{List}
-use mathlib.Core.Option
-use mathlib.Core.Option.{Option, none, some, map}
 use lib.ListN.{get_or, set, replicate}
 use borrow.Author.Tests.{eq-eqb, ne_eqb}
 use Rattle.paper.specs.Matching.{entry_at, is_on, last_on}
-use Rattle.paper.specs.Columns.{whole_line}
+use Rattle.paper.specs.Columns.{whole_line, refused_at}
 use Rattle.paper.specs.Levels.{counts, is_mark, last_mark, expected, agrees, off_at, on_off, levels_from, levels_of}
 use Rattle.paper.specs.declared.Asked.{Asked}
 use Rattle.paper.specs.declared.Data.{Data}
 use Rattle.paper.specs.declared.Entry.{Entry}
 use Rattle.paper.specs.declared.Fault.TheVariants as Fault
 use Rattle.paper.specs.declared.Site.{Site}
-use Rattle.paper.specs.declared.Stop.{Stop}
-use Rattle.paper.specs.declared.Stop.TheVariants.{End, At}
 use Rattle.matching.proofs.EachLast.{EachLast, each_none, each_more}
 use Rattle.matching.proofs.Last.{last_of_lem}
 use Rattle.store.specs.Layout.{entry_from, entries_in, On}
 use Rattle.store.proofs.Laws.{length_entries, entry_in}
 use Rattle.levels.specs.Seen.{Seen, off_by}
+use Rattle.paper.specs.declared.Refusal.{Refusal}
 
 -- ---- the tables, while the records are gone over
 
@@ -85,30 +83,30 @@ module _ (a : Asked) (l : List ℕ) (n : ℕ) where
   es = entries_in l n
 
   -- its last record, or none, and its last mark, or none
-  by_places : (x y : Option ℕ) → ((k : ℕ) → x ≡ some k → k < n) → ((k : ℕ) → y ≡ some k → k < n)
-      → cond (agrees a es y) none (map (λ k. (entry_at es k).line) x)
-      ≡ cond (off_by a l n (Option.get_or x n) (Option.get_or y n)) (some (entry_from l (Option.get_or x n)).line) none
+  by_places : (x y : Option ℕ) → ((k : ℕ) → x ≡ Some k → k < n) → ((k : ℕ) → y ≡ Some k → k < n)
+      → cond (agrees a es y) None (option_map (λ k. (entry_at es k).line) x)
+      ≡ cond (off_by a l n (unwrap_or x n) (unwrap_or y n)) (Some (entry_from l (unwrap_or x n)).line) None
   unfolding agrees off_by
-  by_places none y x< y< = rw (eq-eqb n n refl) (go (agrees a es y))
+  by_places None y x< y< = rw (eq-eqb n n refl) (go (agrees a es y))
     where
-      go : (t : Bool) → ◌≡◌ {A = Option ℕ} (cond t none none) none
+      go : (t : Bool) → ◌≡◌ {A = Option ℕ} (cond t None None) None
       go true = refl
       go false = refl
-  by_places (some k) none x< y< = let k< = x< k refl in rw (ne_eqb k n (λ e. absurd (omega arith)), eq-eqb n n refl, entry_in l n k k<)
-  by_places (some k) (some j) x< y< =
+  by_places (Some k) None x< y< = let k< = x< k refl in rw (ne_eqb k n (λ e. absurd (omega arith)), eq-eqb n n refl, entry_in l n k k<)
+  by_places (Some k) (Some j) x< y< =
       let k< = x< k refl in
       let j< = y< j refl in
       rw (ne_eqb k n (λ e. absurd (omega arith)), ne_eqb j n (λ e. absurd (omega arith)), entry_in l n k k<, entry_in l n j j<)
       (go (expected a (entry_from l j).body.values))
     where
-      go : (t : Bool) → cond t none (some (entry_from l k).line) ≡ cond (not t) (some (entry_from l k).line) none
+      go : (t : Bool) → cond t None (Some (entry_from l k).line) ≡ cond (not t) (Some (entry_from l k).line) None
       go true = refl
       go false = refl
 
   -- ---- all of them
 
   module _ {last mark : List ℕ} (s : Seen l n last mark) where
-    off_at_lem : (p : ℕ) → p < 64 → off_at a es p ≡ cond (off_by a l n (get_or last p 0) (get_or mark p 0)) (some (entry_from l (get_or last p 0)).line) none
+    off_at_lem : (p : ℕ) → p < 64 → off_at a es p ≡ cond (off_by a l n (get_or last p 0) (get_or mark p 0)) (Some (entry_from l (get_or last p 0)).line) None
     unfolding off_at
     off_at_lem p p< =
         rw (length_entries l n, s.each_last p p<, s.each_mark p p<)
@@ -120,23 +118,23 @@ module _ (a : Asked) (l : List ℕ) (n : ℕ) where
       one_on = let z : 64 - p ≡ suc (64 - (p + 1)) = omega arith in rw (z, add-one p)
 
       pub off_here : told ≡ true → {site : Site} → site ≡ whole_line (entry_from l (get_or last p 0)).line
-          → At Fault.OtherLevels site ≡ levels_from a es p (64 - p)
+          → refused_at Fault.OtherLevels site ≡ levels_from a es p (64 - p)
       off_here e f = rw (one_on, off_at_lem p p<, ← tells, e, f)
 
       pub not_here : told ≡ false → levels_from a es p (64 - p) ≡ levels_from a es (p + 1) (64 - (p + 1))
       not_here e = one_on ∙ rw (off_at_lem p p<, ← tells, e)
 
-    pub all_past : {p : ℕ} → 64 ≤ p → End ≡ levels_from a es p (64 - p)
+    pub all_past : {p : ℕ} → 64 ≤ p → Ok tt ≡ levels_from a es p (64 - p)
     unfolding levels_from
     all_past {p} h = let z : 64 - p ≡ 0 = omega arith in rw z
 
 -- ---- "A fourth number says 0 for off .. or 1 for on"
 
 module _ (a : Asked) (es : List Entry) where
-  pub not_asked : (a.levels ≡ 1 → ⊥) → End ≡ levels_of a es
+  pub not_asked : (a.levels ≡ 1 → ⊥) → Ok tt ≡ levels_of a es
   unfolding levels_of
   not_asked h = rw (ne_eqb a.levels 1 h)
 
-  pub asked_for : a.levels ≡ 1 → {r : Stop} → r ≡ levels_from a es 0 64 → r ≡ levels_of a es
+  pub asked_for : a.levels ≡ 1 → {r : Result Unit Refusal} → r ≡ levels_from a es 0 64 → r ≡ levels_of a es
   unfolding levels_of
   asked_for h e = rw (eq-eqb a.levels 1 h) e

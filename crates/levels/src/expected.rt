@@ -8,13 +8,7 @@ use paper::{Asked, Data};
 fn same_three(picl: i64, user: i64, trace: i64, asked: Asked) -> bool
     ensures { result ≡ levels.expected asked (Data.Three picl user trace) }
 {
-    if !signed::same(picl, asked.picl) {
-        return false;
-    }
-    if !signed::same(user, asked.user) {
-        return false;
-    }
-    signed::same(trace, asked.trace)
+    picl == asked.picl && user == asked.user && trace == asked.trace
 }
 
 fn expected(values: Data, asked: Asked) -> bool

@@ -10,7 +10,7 @@ ghost use Rattle.paper.specs.Levels.{levels_from, levels_of};
 ghost use Rattle.store.specs.Layout.{entries_in};
 ghost use Rattle.levels.specs.Seen.{Seen};
 
-use paper::{Asked, Fault, Stop};
+use paper::{Asked, Fault, Refusal};
 
 // The same place for each of the sixty-four processors.
 fn for_each(place: usize) -> [usize; 64]
@@ -20,36 +20,41 @@ fn for_each(place: usize) -> [usize; 64]
 }
 
 // "The smallest such processor decides; the line is that of its last listed record."
-fn first_off(store: &[u32], listed: usize, last: &[usize], mark: &[usize], asked: Asked) -> Stop
+fn first_off(
+    store: &[u32],
+    listed: usize,
+    last: &[usize],
+    mark: &[usize],
+    asked: Asked,
+) -> Result<(), Refusal>
     requires { Seen store.now listed last.now mark.now }
     ensures { result ≡ levels_from asked (entries_in store.now listed) 0 64 }
 {
-    let mut p: usize = 0;
-    while p < 64 {
+    for p in 0..64 {
         if expected::off(store, listed, last[p], mark[p], asked) {
-            return Stop::At(Fault::OtherLevels, store::site_at(store, last[p]));
+            return Err(Refusal {
+                fault: Fault::OtherLevels,
+                site: store::site_at(store, last[p]),
+            });
         }
-        p += 1;
     }
-    Stop::End
+    Ok(())
 }
 
 // The first `listed` records of a store, looked at where the levels are asked for. A place that is `listed` is none.
-pub fn check(store: &[u32], listed: usize, asked: Asked) -> Stop
+pub fn check(store: &[u32], listed: usize, asked: Asked) -> Result<(), Refusal>
     ensures { result ≡ levels_of asked (entries_in store.now listed) }
 {
     if asked.levels != 1 {
-        return Stop::End;
+        return Ok(());
     }
     // of each processor the place of its last record so far, and of its last mark that counts
     let mut last = for_each(listed);
     let mut mark = for_each(listed);
-    let mut i: usize = 0;
-    while i < listed {
+    for i in 0..listed {
         let p = store::processor_at(store, i);
         last[p] = i;
         mark[p] = mark::later(store, i, mark[p]);
-        i += 1;
     }
     first_off(store, listed, &last, &mark, asked)
 }

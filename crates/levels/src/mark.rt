@@ -9,33 +9,21 @@ use paper::Data;
 fn is_three(values: Data) -> bool
     ensures { result ≡ is_three values }
 {
-    match values {
-        Data::Three(_, _, _) => true,
-        Data::Others => false,
-    }
+    matches!(values, Data::Three(..))
 }
 
 // Most records are of another event, which is asked first.
 fn counts(store: &[u32], i: usize) -> bool
     ensures { result ≡ levels.counts (entry_from store.now i).body }
 {
-    let event = store::event_at(store, i);
-    if !signed::same(event, -904) {
-        return false;
-    }
-    let kind = store::kind_at(store, i);
-    if !signed::same(kind, -2) {
-        return false;
-    }
-    is_three(store::values_at(store, i))
+    store::event_at(store, i) == -904
+        && store::kind_at(store, i) == -2
+        && is_three(store::values_at(store, i))
 }
 
 // The last mark that counts, with record i behind those before.
 pub(crate) fn later(store: &[u32], i: usize, before: usize) -> usize
     ensures { result ≡ cond (levels.counts (entry_from store.now i).body) i before }
 {
-    if counts(store, i) {
-        return i;
-    }
-    before
+    if counts(store, i) { i } else { before }
 }

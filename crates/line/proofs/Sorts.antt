@@ -1,10 +1,10 @@
 -- A line sorted by its record type and its event type.
+use Rattle.std.specs.Prelude.{Option, Result, Some, None, Ok, Err}
 use Prim.Native.Nat.{ℕ, zero, suc}
 use mathlib.Core.Path.{◌≡◌, refl, sym, ap, ◌∙◌}
 use mathlib.Core.List.{List}
 use mathlib.Core.Bool.{Bool, true, false, cond}
 use mathlib.Core.Logic.{◌⊎◌, inl, inr}
-use mathlib.Core.Option.{Option, none, some}
 use native.Mathlib.Omega.{arith}
 use lib.ListN.{length, drop, length-drop}
 use lib.IntN.{ℤ}
@@ -16,11 +16,9 @@ use Rattle.paper.specs.declared.Choice.{Choice}
 use Rattle.paper.specs.declared.Head.{Head}
 use Rattle.paper.specs.declared.Fault.{Fault}
 use Rattle.paper.specs.declared.Standing.{Standing}
-use Rattle.paper.specs.declared.Spot.TheVariants.{Field}
 use Rattle.paper.specs.declared.Line.TheVariants.{Refused}
 use Rattle.field.specs.Cursor.{rest_at, Tells}
 use Rattle.fields.specs.Cursor.{begun_of, begun_next}
-use Rattle.fields.specs.declared.Opening.{Opening}
 use Rattle.line.specs.Sorting.{standing_in}
 
 -- ---- the end of an unlisted line
@@ -30,7 +28,7 @@ module _ (l : List ℕ) (next : ℕ) where
   unfolding good_end rest_at
   end_none zero e = go (ltb (length l) next)
     where
-      go : (b : Bool) → b ≡ good_end zero (cond b none (some (drop next l)))
+      go : (b : Bool) → b ≡ good_end zero (cond b None (Some (drop next l)))
       go true = refl
       go false = refl
   end_none (suc n) e = absurd (omega arith)
@@ -44,7 +42,7 @@ module _ (l : List ℕ) (next : ℕ) where
       inner true e = sym (lt-ltb 0 (length (drop next l)) (simp length-drop (omega (arith, ltb-true next (length l) e))))
       inner false e = sym (le-ltb 0 (length (drop next l)) (simp length-drop (omega (arith, ltb-false next (length l) e))))
 
-      go : (b : Bool) → ltb (length l) next ≡ b → ltb next (length l) ≡ good_end (suc n) (cond b none (some (drop next l)))
+      go : (b : Bool) → ltb (length l) next ≡ b → ltb next (length l) ≡ good_end (suc n) (cond b None (Some (drop next l)))
       go true e = le-ltb next (length l) (omega (arith, ltb-true (length l) next e))
       go false e = inner (ltb next (length l)) refl
 
@@ -82,7 +80,7 @@ module _ (choice : Choice) (h : Head) (fields : Option (List ℕ)) where
   unfolding unlisted
   end_good e = rw e
 
-  pub end_bad : good_end h.count fields ≡ false → Refused Fault.Form (Field 6) ≡ unlisted choice h fields
+  pub end_bad : good_end h.count fields ≡ false → Refused Fault.Form (Some 6) ≡ unlisted choice h fields
   unfolding unlisted
   end_bad e = rw e
 
@@ -107,11 +105,11 @@ module _ (choice : Choice) (h : Head) (fields : Option (List ℕ)) where
 
 -- ---- from the head
 
-module _ (choice : Choice) (l : List ℕ) (r : Opening) (told : Tells l (begun_of l r) (head_of l) (begun_next r)) where
-  pub opened : (h : Head) (next : ℕ) → r ≡ Opening.Six h next → begun choice (six h (rest_at l next)) ≡ line_of choice l
+module _ (choice : Choice) (l : List ℕ) (r : Result (Head × ℕ) (Fault × ℕ)) (told : Tells l (begun_of l r) (head_of l) (begun_next r)) where
+  pub opened : (h : Head) (next : ℕ) → r ≡ Ok (h, next) → begun choice (six h (rest_at l next)) ≡ line_of choice l
   unfolding line_of begun_of
   opened h next e = ap (begun choice) (sym (ap (begun_of l) e) ∙ told.is)
 
-  pub not_opened : (fault : Fault) (k : ℕ) → r ≡ Opening.Bad fault k → Refused fault (Field k) ≡ line_of choice l
+  pub not_opened : (fault : Fault) (k : ℕ) → r ≡ Err (fault, k) → Refused fault (Some k) ≡ line_of choice l
   unfolding line_of begun_of begun
   not_opened fault k e = ap (begun choice) (sym (ap (begun_of l) e) ∙ told.is)

@@ -2,41 +2,33 @@
 ghost use Rattle.paper.specs.Line.{listed_line, unlisted};
 ghost use Rattle.line.specs.Quick.{QuickAt, RestAt};
 
-use crate::{Quick, listed, sort};
-use paper::{Choice, Head, Standing};
-use quick::{Begins, Holds};
-use tail::Ends;
+use crate::{listed, sort};
+use paper::{Choice, Head, Line, Standing};
 
 // "then 9, data (5), 10"
-fn with_data(s: &[u8], h: Head, ended: bool, at: usize) -> Quick
+fn with_data(s: &[u8], h: Head, ended: bool, at: usize) -> Option<(Line, usize)>
     ensures { RestAt (listed_line h) s.now ended at result }
 {
-    let Holds::Of(values, next) = quick::read_data(s, ended, at, h.kind, h.count) else {
-        return Quick::Doubt;
-    };
-    Quick::Of(listed::with_values(h, values), next)
+    let (values, next) = quick::read_data(s, ended, at, h.kind, h.count)?;
+    Some((listed::with_values(h, values), next))
 }
 
 // "For an unlisted line its end (5) is checked before 7 or passing."
-fn over(choice: Choice, s: &[u8], h: Head, ended: bool, at: usize) -> Quick
+fn over(choice: Choice, s: &[u8], h: Head, ended: bool, at: usize) -> Option<(Line, usize)>
     ensures { RestAt (unlisted choice h) s.now ended at result }
 {
-    let Ends::At(next) = tail::read_end(s, ended, at, h.count) else {
-        return Quick::Doubt;
-    };
-    Quick::Of(sort::step_over(choice, h), next)
+    let next = tail::read_end(s, ended, at, h.count)?;
+    Some((sort::step_over(choice, h), next))
 }
 
 // "Next the record type (7 or passed over), event not handled (8), event type (7 or passed over)"
-pub(crate) fn sorted(choice: Choice, s: &[u8], at: usize) -> Quick
+pub(crate) fn sorted(choice: Choice, s: &[u8], at: usize) -> Option<(Line, usize)>
     ensures { QuickAt choice s.now at result }
 {
-    let Begins::Six(h, ended, next) = quick::read_six(s, at) else {
-        return Quick::Doubt;
-    };
+    let (h, ended, next) = quick::read_six(s, at)?;
     match sort::standing(h.kind, h.event) {
         Standing::Listed | Standing::Message => with_data(s, h, ended, next),
-        Standing::NotHandled => Quick::Doubt,
+        Standing::NotHandled => None,
         Standing::Unlisted => over(choice, s, h, ended, next),
     }
 }

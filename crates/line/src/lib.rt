@@ -11,38 +11,30 @@ ghost use Rattle.paper.specs.Columns.{column_in};
 ghost use Rattle.paper.specs.Line.{line_of};
 ghost use Rattle.line.specs.Quick.{QuickAt};
 
-use fields::Opening;
-use paper::{Choice, Line, Spot};
-
-// What the line that starts at a place of a trace comes to, and where the next one starts.
-#[derive(Clone, Copy)]
-pub enum Quick {
-    Of(Line, usize),
-    Doubt,
-}
+use paper::{Choice, Line};
 
 pub fn read_line(choice: Choice, l: &[u8]) -> Line
     ensures { result ≡ line_of choice l.now }
 {
     match fields::read_head(l) {
-        Opening::Six(h, next) => sort::sort_line(choice, l, h, next),
-        Opening::Bad(fault, k) => Line::Refused(fault, Spot::Field(k)),
+        Ok((h, next)) => sort::sort_line(choice, l, h, next),
+        Err((fault, k)) => Line::Refused(fault, Some(k)),
     }
 }
 
 // By one cursor, or no answer: a line in doubt is for read_line.
-pub fn quick_line(choice: Choice, s: &[u8], at: usize) -> Quick
+pub fn quick_line(choice: Choice, s: &[u8], at: usize) -> Option<(Line, usize)>
     ensures { QuickAt choice s.now at result }
 {
     at::sorted(choice, s, at)
 }
 
 // The column of what decides in a line that is refused, and 0 where no field does.
-pub fn column(l: &[u8], spot: Spot) -> usize
+pub fn column(l: &[u8], spot: Option<usize>) -> usize
     ensures { result ≡ column_in l.now spot }
 {
     match spot {
-        Spot::Field(k) => begins::column(l, k),
-        Spot::Whole => 0,
+        Some(k) => begins::column(l, k),
+        None => 0,
     }
 }

@@ -1,6 +1,8 @@
 -- A time and a signed number put into a room, by what the functions that write them tell.
+use Rattle.std.specs.Prelude.{Result, Ok, Err}
 use Prim.Native.Nat.{ℕ, ◌+◌, ◌/◌, ◌%◌, ◌≤◌}
-use mathlib.Core.Path.{◌≡◌, sym, ◌∙◌}
+use Rattle.std.specs.Result.{result_unwrap_or}
+use mathlib.Core.Path.{◌≡◌, refl, sym, ◌∙◌}
 use mathlib.Core.List.{List, ◌++◌, append_assoc}
 use native.Mathlib.Numerals.{add-one}
 use native.Mathlib.Omega.{arith}
@@ -11,8 +13,6 @@ use Rattle.paper.specs.Text.{bytes_of}
 use Rattle.paper.specs.Forms.{time_shown}
 use Rattle.forms.proofs.Back.{shown_short}
 use Rattle.shown.specs.Writes.{TimePut}
-use Rattle.shown.specs.declared.Put as shown
-use Rattle.shown.specs.declared.Put.TheVariants.{At, NoRoom, NoTime}
 use Rattle.shown.proofs.Outcomes.{put_at, put_no_room, put_no_time}
 use Rattle.signed.specs.Codes.{code_of, decoded}
 use Rattle.signed.proofs.Codes.{even, odd, code_back}
@@ -20,15 +20,16 @@ use Rattle.report.specs.Put.{Short}
 use Rattle.report.specs.Report.{shown, named}
 use Rattle.report.proofs.Puts.{then}
 use Rattle.lines.specs.Parts.{stamp_shown, whole_shown}
+use Rattle.shown.specs.declared.Unput.{Unput}
 
 -- ---- a time
 
-module _ (room : List ℕ) (at : ℕ) (z : ℤ) {y : ℤ} (same : y ≡ z) (wide : at + 17 ≤ length room) {r : shown.Put} {after : List ℕ}
+module _ (room : List ℕ) (at : ℕ) (z : ℤ) {y : ℤ} (same : y ≡ z) (wide : at + 17 ≤ length room) {r : Result ℕ Unput} {after : List ℕ}
     (told : TimePut room at y r after) where
   p : TimePut room at z r after
   p = rw same at told
 
-  pub time_there : {end : ℕ} → r ≡ At end → Short 17 room at (stamp_shown z) end after
+  time_there : {end : ℕ} → r ≡ Ok end → Short 17 room at (stamp_shown z) end after
   unfolding stamp_shown
   time_there {end} e =
       let s = put_at room at z p e in
@@ -38,10 +39,10 @@ module _ (room : List ℕ) (at : ℕ) (z : ℤ) {y : ℤ} (same : y ≡ z) (wide
         short = omega (arith, s.ends, shown_short z);
       })
 
-  pub time_fits : r ≡ NoRoom → Short 17 room at (stamp_shown z) at after
+  time_fits : r ≡ Err Unput.NoRoom → Short 17 room at (stamp_shown z) at after
   time_fits e = absurd (omega (arith, wide, (put_no_room room at z p e).0, shown_short z))
 
-  pub time_formless : r ≡ NoTime → Short 17 room at (stamp_shown z) at after
+  time_formless : r ≡ Err Unput.NoTime → Short 17 room at (stamp_shown z) at after
   unfolding stamp_shown
   time_formless e =
       let n = put_no_time room at z p e in
@@ -50,6 +51,14 @@ module _ (room : List ℕ) (at : ℕ) (z : ℤ) {y : ℤ} (same : y ≡ z) (wide
         put = record { ends = omega arith; fits = omega (arith, wide); holds = n.1 ∙ sym (take-append-drop at room) };
         short = omega arith;
       })
+
+  pub time_put_there : {end : ℕ} → end ≡ result_unwrap_or r at → Short 17 room at (stamp_shown z) end after
+  time_put_there {end} h = go r refl
+    where
+      go : (x : Result ℕ Unput) → r ≡ x → Short 17 room at (stamp_shown z) end after
+      go (Ok n) e = let q : end ≡ n = h ∙ rw e in rw q (time_there e)
+      go (Err Unput.NoRoom) e = let q : end ≡ at = h ∙ rw e in rw q (time_fits e)
+      go (Err Unput.NoTime) e = let q : end ≡ at = h ∙ rw e in rw q (time_formless e)
 
 -- ---- a signed number
 

@@ -43,15 +43,12 @@ pub(crate) fn put_whole(room: &mut [u8], at: usize, z: i64) -> usize
     put_named(room, at, b"-", code / 2 + 1)
 }
 
+// Nothing is put of a time that has no form.
 fn put_time(room: &mut [u8], at: usize, time: i64) -> usize
     requires { at + 17 ≤ length room.old }
     ensures { Short 17 room.old at (stamp_shown time) result room.new }
 {
-    match shown::write_time(room, at, time) {
-        shown::Put::At(end) => end,
-        shown::Put::NoRoom => at,
-        shown::Put::NoTime => at,
-    }
+    shown::write_time(room, at, time).unwrap_or(at)
 }
 
 // A word and a time.

@@ -18,13 +18,13 @@ pub fn stamped_at(store: &[u32], times: &[i64], i: usize) -> Stamped
             corrected: 0,
         };
     }
-    let line = store::line_at(store, i);
-    let processor = store::processor_at(store, i);
+    let line = store::line_at(store, i) as u64;
+    let processor = store::processor_at(store, i) as u64;
     let original = store::time_at(store, i);
     Stamped {
-        line: line as u64,
-        processor: processor as u64,
-        original: original,
+        line,
+        processor,
+        original,
         corrected: times[i],
     }
 }

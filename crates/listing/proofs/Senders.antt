@@ -1,9 +1,9 @@
 -- The messages by the places of the sends are the messages of the trace.
+use Rattle.std.specs.Prelude.{Option, Some, None, unwrap_or}
 use mathlib.Core.Path.{◌≡◌, refl}
 use Prim.Native.Nat.{ℕ, zero, suc, ◌<◌}
 use native.Mathlib.Omega.{arith}
 use mathlib.Core.List.{List}
-use mathlib.Core.Option.{Option, none, some, get_or}
 use lib.ListN.{length}
 use borrow.Author.Tests.{lt-ltb, le-ltb}
 use Rattle.paper.specs.Matching.{send_of, waits_of}
@@ -22,15 +22,15 @@ messages_same f g zero same = refl
 messages_same f g (suc n) same = rw (messages_same f g n (λ i l. same i (omega (arith, l))), same n (omega arith))
 
 module _ (es : List Entry) where
-  sent : (x : Option ℕ) → ((j : ℕ) → x ≡ some j → j < length es) → send_at (length es) (get_or x (length es)) ≡ x
+  sent : (x : Option ℕ) → ((j : ℕ) → x ≡ Some j → j < length es) → send_at (length es) (unwrap_or x (length es)) ≡ x
   unfolding send_at
-  sent none within = rw (le-ltb (length es) (length es) (omega arith))
-  sent (some j) within = rw (lt-ltb j (length es) (within j refl))
+  sent None within = rw (le-ltb (length es) (length es) (omega arith))
+  sent (Some j) within = rw (lt-ltb j (length es) (within j refl))
 
   same_send : (i : ℕ) → i < length es → send_in (places_of es) i ≡ send_of es i
   unfolding places_of send_in
   same_send i l =
-      rw (length_listed (length es) (λ k. get_or (send_of es k) (length es)), listed_at (length es) (λ k. get_or (send_of es k) (length es)) i 0 l)
+      rw (length_listed (length es) (λ k. unwrap_or (send_of es k) (length es)), listed_at (length es) (λ k. unwrap_or (send_of es k) (length es)) i 0 l)
       (sent (send_of es i) (λ j e. send_within es i j e))
 
   pub same_messages : (share : ℕ) (latencies : List ℕ)

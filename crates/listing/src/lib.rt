@@ -8,8 +8,9 @@ ghost use Rattle.mail.specs.Mail.{pair_at};
 ghost use Rattle.paper.specs.Filling.{query};
 ghost use Rattle.listing.specs.Plan.{Planned, WithSends, ConcludedBy};
 
+use answer::Counts;
 use paper::{Asked, Fault, Filled, Pair};
-use reach::Reached;
+use reach::Unreached;
 
 // Two numbers for each record that a call may list. A function of its own makes the array, so that no other proof meets so many zeros.
 pub fn blank() -> [u64; 4096]
@@ -25,19 +26,25 @@ pub fn pair_of(numbers: &[u64; 4096], k: usize) -> Pair
 }
 
 // "A refused trace keeps its refusal; .. then a list too short is 16", of a list with so many places.
-fn conclude(reached: Reached, sends: &[u32], places: usize, numbers: &mut [u64]) -> Filled
+fn conclude(
+    reached: Result<Counts, Unreached>,
+    sends: &[u32],
+    places: usize,
+    numbers: &mut [u64],
+) -> Filled
     requires { WithSends reached sends.now }
     ensures { ConcludedBy reached sends.now places (length numbers.old) result numbers.new }
 {
     match reached {
-        Reached::Times(counts) => {
-            let listed = counts.listed;
-            let count = mail::gather(&sends[0..listed], numbers);
+        Ok(counts) => {
+            let count = mail::gather(&sends[..counts.listed], numbers);
             answer::filled_list(count, places)
         }
-        Reached::Refused(fault, site) => answer::unfilled(fault, site),
-        // never: the slices of a call are made for as many records as it may list
-        Reached::Misfit => answer::unfilled(Fault::NoTimes, answer::nowhere()),
+        Err(why) => match why {
+            Unreached::Refused(refusal) => answer::unfilled(refusal.fault, refusal.site),
+            // never: the slices of a call are made for as many records as it may list
+            Unreached::Misfit => answer::unfilled(Fault::NoTimes, answer::nowhere()),
+        },
     }
 }
 

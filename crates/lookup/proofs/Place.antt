@@ -1,4 +1,5 @@
 -- The search along the records, and what a word names.
+use Rattle.std.specs.Prelude.{Option, Some, None}
 use Prim.Native.Nat.{ℕ, suc, ◌+◌, ◌≤◌, ◌<◌}
 use mathlib.Core.Path.{◌≡◌, sym, ◌∙◌}
 use mathlib.Core.List.{List, [], ◌∷◌}
@@ -9,8 +10,6 @@ use lib.Seq.{drop-cons}
 use borrow.Author.Tests.{eq-eqb, ne_eqb}
 use Rattle.paper.specs.Matching.{entry_at, no_entry}
 use Rattle.paper.specs.declared.Entry.{Entry}
-use Rattle.signed.specs.declared.Natural.{Natural}
-use Rattle.signed.specs.declared.Natural.TheVariants.{Of, Outside}
 use Rattle.store.specs.Layout.{entries_in, entry_from}
 use Rattle.store.proofs.Laws.{length_entries, entry_in}
 use Rattle.numeral.specs.Numeral.{natural_in}
@@ -51,20 +50,20 @@ module _ {store : List ℕ} {listed line i : ℕ} (g : Going store listed line i
         let z : place_from line (entry_from store i ∷ drop (suc i) es) ≡ suc (place_from line (drop (suc i) es)) = rw t in
         record { gives = rw (add-one i) (omega (arith, q, z)); inside = omega arith }
 
-  pub nowhere : listed ≤ i → i ≡ place_from line es
+  pub nowhere : listed ≤ i → listed ≡ place_from line es
   unfolding place_from
   nowhere h =
       let z : drop i es ≡ [] = drop_of_length-le es {i = i} (omega (arith, h, length_entries store listed)) in
       let q = rw z at g.gives in
-      omega (arith, q)
+      omega (arith, q, g.inside, h)
 
 -- ---- the word
 
-module _ (word : List ℕ) (store : List ℕ) (listed : ℕ) {named : Natural} (is : named ≡ natural_in word) where
-  pub on_line_lem : {line place : ℕ} → named ≡ Of line → place ≡ place_from line (entries_in store listed) → place ≡ place_on word (entries_in store listed)
+module _ (word : List ℕ) (store : List ℕ) (listed : ℕ) {named : Option ℕ} (is : named ≡ natural_in word) where
+  pub on_line_lem : {line place : ℕ} → named ≡ Some line → place ≡ place_from line (entries_in store listed) → place ≡ place_on word (entries_in store listed)
   unfolding place_on place_by
   on_line_lem e p = rw (sym is ∙ e) p
 
-  pub on_none : named ≡ Outside → listed ≡ place_on word (entries_in store listed)
+  pub on_none : named ≡ None → listed ≡ place_on word (entries_in store listed)
   unfolding place_on place_by
   on_none e = rw (sym is ∙ e) (sym (length_entries store listed))

@@ -1,11 +1,11 @@
 -- The loop over the records: what holds before each of them.
+use Rattle.std.specs.Prelude.{Option, Some, None}
 use mathlib.Core.Path.{◌≡◌, refl, sym, ap, ◌∙◌}
 use Prim.Native.Nat.{ℕ, ◌+◌, ◌/◌, ◌<◌, ◌≤◌}
 use native.Mathlib.Nat.{le_antisymm}
 use native.Mathlib.Numerals.{add-one}
 use native.Mathlib.Omega.{arith}
 use mathlib.Core.List.{List, [], ◌∷◌, ◌++◌, append-nil}
-use mathlib.Core.Option.{Option, none, some}
 use lib.ListN.{length, get_or, length-append, get_or-append}
 use lib.Seq.{get_or-append_seam}
 use borrow.Author.Count.{below_more}
@@ -34,8 +34,8 @@ module _ {items : List Pair} {count : ℕ} {numbers : List ℕ} (holds : Holds i
   noted : (x : Option ℕ) (i : ℕ) {r : ℕ} {numbers' : List ℕ} → Noted x i count numbers r numbers'
       → Holds (items ++ message_at i x) r numbers' × (length numbers' ≡ length numbers) × (r ≤ count + 1)
   unfolding Noted message_at
-  noted none i (e, f) = rw (e, f, append-nil items) (holds, refl, omega arith)
-  noted (some s) i (e, f) = rw (e, f) (put_more s i, put_length numbers count s i, omega arith)
+  noted None i (e, f) = rw (e, f, append-nil items) (holds, refl, omega arith)
+  noted (Some s) i (e, f) = rw (e, f) (put_more s i, put_length numbers count s i, omega arith)
 
 -- ---- the loop
 

@@ -1,24 +1,16 @@
 -- The pairs of a slice of numbers, and what noting one more message does to them.
-use mathlib.Core.Path.{◌≡◌, refl, ◌∙◌}
-use Prim.Native.Nat.{ℕ, ◌+◌, ◌*◌, ◌/◌, ◌<◌, ◌≤◌}
+use mathlib.Core.Path.{◌≡◌, ◌∙◌}
+use Prim.Native.Nat.{ℕ, ◌+◌, ◌*◌, ◌/◌, ◌<◌}
 use native.Mathlib.Omega.{arith}
 use mathlib.Core.List.{List}
 use lib.ListN.{length, get_or, set, length-set}
 use lib.Seq.{get_or-set_same, get_or-set_other}
-use borrow.Author.Tests.{lt-ltb, le-ltb}
+use borrow.Author.Tests.{lt-ltb}
 use Rattle.paper.specs.declared.Pair.{Pair}
-use Rattle.mail.specs.Mail.{no_pair, pair_at, send_at, put, Noted}
+use Rattle.mail.specs.Mail.{pair_at, put}
 
 abbrev two : (send receive : ℕ) → Pair
 two send receive = record { send = send; receive = receive }
-
-pub pair_is : (l : List ℕ) (k : ℕ) → k < length l / 2 → two (get_or l (2 * k) 0) (get_or l (2 * k + 1) 0) ≡ pair_at l k
-unfolding pair_at
-pair_is l k h = rw (lt-ltb k (length l / 2) h)
-
-pub pair_past : (l : List ℕ) (k : ℕ) → length l / 2 ≤ k → no_pair ≡ pair_at l k
-unfolding pair_at
-pair_past l k h = rw (le-ltb k (length l / 2) h)
 
 module _ (l : List ℕ) (n s r : ℕ) where
   abbrev one : List ℕ
@@ -49,14 +41,3 @@ module _ (l : List ℕ) (n s r : ℕ) where
       let first = same (2 * k) (λ e. omega (arith, e, h)) (λ e. omega (arith, e, h)) in
       let second = same (2 * k + 1) (λ e. omega (arith, e, h)) (λ e. omega (arith, e, h)) in
       rw (put_length, first, second)
-
--- ---- the ways out of `note`
-
-module _ (send receive listed count : ℕ) (numbers : List ℕ) where
-  pub no_message : listed ≤ send → Noted (send_at listed send) receive count numbers count numbers
-  unfolding send_at Noted
-  no_message h = rw (le-ltb send listed h) (refl, refl)
-
-  pub a_message : send < listed → Noted (send_at listed send) receive count numbers (count + 1) (put numbers count send receive)
-  unfolding send_at Noted
-  a_message h = rw (lt-ltb send listed h) (refl, refl)

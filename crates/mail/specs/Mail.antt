@@ -1,6 +1,5 @@
 -- Messages as numbers, two to a message: the place of its send, then that of its receive.
-use Rattle.std.specs.Prelude.{ℕ, ◌+◌, ◌*◌, ◌/◌, ◌<◌, ◌≡◌, List, cond, length, get_or, set, ltb}
-use Rattle.std.proofs.Math.Option.{Option, none, some}
+use Rattle.std.specs.Prelude.{ℕ, ◌+◌, ◌*◌, ◌/◌, ◌<◌, ◌≡◌, List, cond, length, get_or, set, ltb, Option, Some, None}
 use Rattle.paper.specs.declared.Pair.{Pair}
 
 abbrev pub no_pair : Pair
@@ -13,7 +12,7 @@ pair_at numbers k =
 
 -- a place that is a send's where it is a record's
 unfoldable pub send_at : ℕ → ℕ → Option ℕ
-send_at listed place = cond (ltb place listed) (some place) none
+send_at listed place = cond (ltb place listed) (Some place) None
 
 -- the send of the record at place i, by the places of the sends
 unfoldable pub send_in : List ℕ → ℕ → Option ℕ
@@ -25,8 +24,8 @@ put numbers k send receive = set (set numbers (2 * k) send) (2 * k + 1) receive
 
 -- one message more, or none
 unfoldable pub Noted : Option ℕ → (receive count : ℕ) → List ℕ → ℕ → List ℕ → Type 0
-Noted none receive count numbers r numbers' = (r ≡ count) × (numbers' ≡ numbers)
-Noted (some send) receive count numbers r numbers' = (r ≡ count + 1) × (numbers' ≡ put numbers count send receive)
+Noted None receive count numbers r numbers' = (r ≡ count) × (numbers' ≡ numbers)
+Noted (Some send) receive count numbers r numbers' = (r ≡ count + 1) × (numbers' ≡ put numbers count send receive)
 
 -- the numbers begin with those of so many messages
 pub record Holds (items : List Pair) (count : ℕ) (numbers : List ℕ) : Type 0 where

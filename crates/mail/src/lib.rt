@@ -9,16 +9,14 @@ ghost use Rattle.mail.specs.Mail.{pair_at, send_at, send_in, Noted, Holds};
 use paper::Pair;
 
 // The k-th pair of the numbers, two zeros where there is none.
+#[tactic(auto, unfolding(crate::specs::Mail::pair_at))]
 pub fn pair_at(numbers: &[u64], k: usize) -> Pair
     ensures { result ≡ pair_at numbers.now k }
 {
     if k < numbers.len() / 2 {
         let send = numbers[2 * k];
         let receive = numbers[2 * k + 1];
-        return Pair {
-            send: send,
-            receive: receive,
-        };
+        return Pair { send, receive };
     }
     Pair {
         send: 0,
@@ -27,6 +25,7 @@ pub fn pair_at(numbers: &[u64], k: usize) -> Pair
 }
 
 // The message that a record receives, if `send` is a record's place, behind `count` messages; how many there are then.
+#[tactic(auto, unfolding(crate::specs::Mail::send_at, crate::specs::Mail::Noted, crate::specs::Mail::put))]
 fn note(send: usize, receive: usize, listed: usize, count: usize, numbers: &mut [u64]) -> usize
     requires { count < length numbers.old / 2 }
     ensures { Noted (send_at listed send) receive count numbers.old result numbers.new }
@@ -49,12 +48,8 @@ pub fn gather(sends: &[u32], numbers: &mut [u64]) -> usize
         return 0;
     }
     let mut count: usize = 0;
-    let mut i: usize = 0;
-    while i < listed {
-        let send = sends[i];
-        let next = note(send as usize, i, listed, count, numbers);
-        count = next;
-        i += 1;
+    for (receive, send) in sends.iter().enumerate() {
+        count = note(*send as usize, receive, listed, count, numbers);
     }
     count
 }

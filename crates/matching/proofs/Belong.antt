@@ -1,10 +1,11 @@
 -- "The k-th receive at processor q from p with type t belongs to the k-th send from p to q with type t, both counted in file
 -- order": what the send of a receive is.
+use Rattle.std.specs.Prelude.{Some}
+use Rattle.std.proofs.lemmas.Option.{none-some}
 use Prim.Native.Nat.{ℕ}
 use native.Mathlib.Omega.{arith}
 use mathlib.Core.Path.{◌≡◌, refl, sym, ap, ◌∙◌}
 use mathlib.Core.Bool.{true}
-use mathlib.Core.Option.{some, none-ne-some}
 use mathlib.Core.List.{List}
 use lib.ListN.{length, take}
 use Rattle.paper.specs.Matching.{Key, count_if, sends_under, is_send_of, is_receive_of, send_place, send_for, send_of}
@@ -20,12 +21,12 @@ use Rattle.matching.proofs.Keys.{send_key, receive_key, key_same, sends_under_le
 pub use Rattle.matching.specs.Belongs.{processor as processor_at, role as role_at}
 
 -- what only a receive has
-pub is_receive : (es : List Entry) (i processor : ℕ) (r : Role) (j : ℕ) → send_for es i processor r ≡ some j
+pub is_receive : (es : List Entry) (i processor : ℕ) (r : Role) (j : ℕ) → send_for es i processor r ≡ Some j
     → (m : Message) × (r ≡ Receive m)
-    × (send_place (receive_key processor m) (count_if (is_receive_of (receive_key processor m)) (take i es)) es ≡ some j)
+    × (send_place (receive_key processor m) (count_if (is_receive_of (receive_key processor m)) (take i es)) es ≡ Some j)
 unfolding send_for
-is_receive es i processor Neither j h = absurd (none-ne-some j h)
-is_receive es i processor (Send m) j h = absurd (none-ne-some j h)
+is_receive es i processor Neither j h = absurd (none-some j h)
+is_receive es i processor (Send m) j h = absurd (none-some j h)
 is_receive es i processor (Receive m) j h = (m, refl, h)
 
 -- record i received m, and record j is the send under m's key that as many sends under it precede as receives precede record i
@@ -50,7 +51,7 @@ module _ (es : List Entry) (i j : ℕ) (m : Message) where
         counted = rw (← from, ← tag) (sym kth.rank ∙ sym (count_take (is_send_of key) es j (omega (arith, kth.within))));
       }
 
-pub belongs : (es : List Entry) (i j : ℕ) → send_of es i ≡ some j → Belongs es i j
+pub belongs : (es : List Entry) (i j : ℕ) → send_of es i ≡ Some j → Belongs es i j
 unfolding send_of
 belongs es i j h =
     let (m, receives, place) = is_receive es i (processor_at es i) (role_at es i) j h in
@@ -75,6 +76,6 @@ module _ (es : List Entry) (i j : ℕ) (b : Belongs es i j) where
         rank = sym (count_take (is_send_of (key_of es j i b.sent)) es j (omega (arith, b.within))) ∙ sym b.counted;
       }
 
-  pub belongs_back : send_of es i ≡ some j
+  pub belongs_back : send_of es i ≡ Some j
   unfolding send_of send_for
   belongs_back = rw b.receives ((place_answers (receive_key (processor_at es i) b.received) _ es).whole j (rw one_key at is_kth))

@@ -1,4 +1,6 @@
 -- "then the first receive in file order that calls for 13 or 14": what `matched_of` comes to.
+use Rattle.std.specs.Prelude.{Option, Some, None, Ok}
+use Rattle.std.proofs.lemmas.Option.{none-some, same_Some}
 use Prim.Native.Nat.{ℕ, zero, suc, ◌+◌, ◌≤◌, ◌<◌}
 use native.Mathlib.Omega.{arith}
 use native.Mathlib.Decide.{dec_lt}
@@ -6,20 +8,19 @@ use native.Mathlib.Numerals.{add-one}
 use mathlib.Core.Path.{◌≡◌, refl, sym, ◌∙◌}
 use mathlib.Core.Logic.{◌⊎◌, inl, inr}
 use mathlib.Core.Bool.{Bool, true, false, cond}
-use mathlib.Core.Option.{Option, none, some, some-ne-none, some-injective}
 use mathlib.Core.List.{List, []}
 use borrow.Author.Tests.{leb-true}
 use lib.Dec.{leb}
 use lib.ListN.{length, drop, drop_of_length-le}
 use lib.Seq.{drop-cons}
-use Rattle.paper.specs.Columns.{whole_line}
+use Rattle.paper.specs.Columns.{whole_line, refused_at}
 use Rattle.paper.specs.Matching.{entry_at, send_of, length_at, length_sent, call_of, call_for, on_call, matched_from, matched_of}
 use Rattle.paper.specs.declared.Fault.{Fault}
 use Rattle.paper.specs.declared.Site.{Site}
 use Rattle.paper.specs.declared.Message.{Message}
 use Rattle.paper.specs.declared.Role.TheVariants.{Receive}
 use Rattle.paper.specs.declared.Entry.{Entry}
-use Rattle.paper.specs.declared.Stop.TheVariants.{End, At}
+use Rattle.paper.proofs.Refusals.{same_fault, same_site}
 use Rattle.matching.specs.Belongs.{Belongs}
 use Rattle.matching.proofs.Belong.{role_at}
 
@@ -30,15 +31,15 @@ call_at es i = call_for es i (role_at es i)
 -- entry i is the first that calls for anything
 pub record FirstCall (es : List Entry) (i : ℕ) (fault : Fault) : Type 0 where
   pub within : i < length es
-  pub calls : call_at es i ≡ some fault
-  pub none_before : (k : ℕ) → k < i → call_at es k ≡ none
+  pub calls : call_at es i ≡ Some fault
+  pub none_before : (k : ℕ) → k < i → call_at es k ≡ None
 
 -- some entry is the first that calls, and none of the first n does
 abbrev pub SomeCall : List Entry → Type 0
 SomeCall es = (i : ℕ) × (fault : Fault) × FirstCall es i fault
 
 abbrev pub NoCall : List Entry → ℕ → Type 0
-NoCall es n = (k : ℕ) → k < n → call_at es k ≡ none
+NoCall es n = (k : ℕ) → k < n → call_at es k ≡ None
 
 module _ (es : List Entry) where
   -- the search at one entry, and at the end
@@ -47,7 +48,7 @@ module _ (es : List Entry) where
   unfolding matched_from entry_at
   matched_step i h = rw (drop-cons es i (entry_at [] 0), add-one i)
 
-  pub matched_end : (i : ℕ) → length es ≤ i → matched_from es i (drop i es) ≡ End
+  pub matched_end : (i : ℕ) → length es ≤ i → matched_from es i (drop i es) ≡ Ok tt
   unfolding matched_from
   matched_end i h = rw (drop_of_length-le es h)
 
@@ -60,10 +61,10 @@ module _ (es : List Entry) where
 
   -- ---- exactly
 
-  pub no_call_end : NoCall es (length es) → matched_of es ≡ End
+  pub no_call_end : NoCall es (length es) → matched_of es ≡ Ok tt
   no_call_end h = passed (length es) (omega arith) h ∙ matched_end (length es) (omega arith)
 
-  pub first_call_at : (i : ℕ) (fault : Fault) → FirstCall es i fault → matched_of es ≡ At fault (whole_line (entry_at es i).line)
+  pub first_call_at : (i : ℕ) (fault : Fault) → FirstCall es i fault → matched_of es ≡ refused_at fault (whole_line (entry_at es i).line)
   first_call_at i fault f =
       passed i (omega (arith, f.within)) f.none_before ∙ matched_step i f.within ∙ rw f.calls
 
@@ -75,14 +76,14 @@ module _ (es : List Entry) where
       go : NoCall es n ⊎ SomeCall es → (o : Option Fault) → call_at es n ≡ o
           → NoCall es (suc n) ⊎ SomeCall es
       go (inr f) o e = inr f
-      go (inl quiet) none e = inl (λ k l. last k l (dec_lt k n))
+      go (inl quiet) None e = inl (λ k l. last k l (dec_lt k n))
         where
-          last : (k : ℕ) → k < suc n → Dec (k < n) → call_at es k ≡ none
+          last : (k : ℕ) → k < suc n → Dec (k < n) → call_at es k ≡ None
           last k l (yes g) = quiet k g
           last k l (no g) = let z : k ≡ n = omega arith in rw z e
-      go (inl quiet) (some fault) e = inr (n, fault, record { within = omega arith; calls = e; none_before = quiet })
+      go (inl quiet) (Some fault) e = inr (n, fault, record { within = omega arith; calls = e; none_before = quiet })
 
-  pub end_no_call : matched_of es ≡ End → NoCall es (length es)
+  pub end_no_call : matched_of es ≡ Ok tt → NoCall es (length es)
   end_no_call h = go (search (length es) (omega arith))
     where
       go : NoCall es (length es) ⊎ SomeCall es → NoCall es (length es)
@@ -90,7 +91,7 @@ module _ (es : List Entry) where
       go (inr (i, fault, f)) =
           let at = first_call_at i fault f in let z : ◌≡◌ {A = ℕ} 0 1 = cc in absurd (omega arith)
 
-  pub at_first_call : (fault : Fault) (site : Site) → matched_of es ≡ At fault site
+  pub at_first_call : (fault : Fault) (site : Site) → matched_of es ≡ refused_at fault site
       → (i : ℕ) × FirstCall es i fault × (whole_line (entry_at es i).line ≡ site)
   at_first_call fault site h = go (search (length es) (omega arith))
     where
@@ -99,33 +100,32 @@ module _ (es : List Entry) where
       go (inl quiet) = let end = no_call_end quiet in let z : ◌≡◌ {A = ℕ} 0 1 = cc in absurd (omega arith)
       go (inr (i, fault', f)) =
           let there = first_call_at i fault' f in
-          let same : fault' ≡ fault = cc in
-          let place : whole_line (entry_at es i).line ≡ site = cc in
-          (i, rw same at f, place)
+          let refused : refused_at fault' (whole_line (entry_at es i).line) ≡ refused_at fault site = sym there ∙ h in
+          (i, rw (same_fault refused) at f, same_site refused)
 
   -- ---- a receive that calls for nothing has a send of at least its length
 
-  call_none : (received : ℕ) (o : Option ℕ) → call_of es received o ≡ none → (j : ℕ) × (o ≡ some j) × (received ≤ length_at es j)
+  call_none : (received : ℕ) (o : Option ℕ) → call_of es received o ≡ None → (j : ℕ) × (o ≡ Some j) × (received ≤ length_at es j)
   unfolding call_of
-  call_none received none h = absurd (some-ne-none _ h)
-  call_none received (some j) h = go (leb received (length_at es j)) refl h
+  call_none received None h = absurd (none-some _ (sym h))
+  call_none received (Some j) h = go (leb received (length_at es j)) refl h
     where
-      go : (t : Bool) → leb received (length_at es j) ≡ t → cond t none (some Fault.LongReceive) ≡ none
-          → (k : ℕ) × (some j ≡ some k) × (received ≤ length_at es k)
+      go : (t : Bool) → leb received (length_at es j) ≡ t → cond t None (Some Fault.LongReceive) ≡ None
+          → (k : ℕ) × (Some j ≡ Some k) × (received ≤ length_at es k)
       go true e g = (j, refl, leb-true _ _ e)
-      go false e g = absurd (some-ne-none _ g)
+      go false e g = absurd (none-some _ (sym g))
 
   -- "and where all match, every receive has a send"
-  pub every_receive : matched_of es ≡ End → (i : ℕ) → i < length es → (m : Message) → role_at es i ≡ Receive m
-      → (j : ℕ) × (send_of es i ≡ some j) × (m.length ≤ length_at es j)
+  pub every_receive : matched_of es ≡ Ok tt → (i : ℕ) → i < length es → (m : Message) → role_at es i ≡ Receive m
+      → (j : ℕ) × (send_of es i ≡ Some j) × (m.length ≤ length_at es j)
   unfolding call_for
   every_receive h i l m r = call_none m.length (send_of es i) (rw r at (end_no_call h i l))
 
   -- and no more was received than was sent
-  pub no_more_received : matched_of es ≡ End → (i j : ℕ) → i < length es → send_of es i ≡ some j → (b : Belongs es i j)
+  pub no_more_received : matched_of es ≡ Ok tt → (i j : ℕ) → i < length es → send_of es i ≡ Some j → (b : Belongs es i j)
       → b.received.length ≤ b.sent.length
   unfolding length_sent
   no_more_received h i j l e b =
       let (k, f, low) = every_receive h i l b.received b.receives in
-      let z : k ≡ j = some-injective k j (sym f ∙ e) in
+      let z : k ≡ j = same_Some k j (sym f ∙ e) in
       rw (z, b.sends) at low

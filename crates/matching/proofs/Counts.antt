@@ -1,11 +1,12 @@
 -- "matched messages", "sends not received": where all receives match, the first are the sends that some receive belongs to, the
 -- others are the sends that none does, and the two add up to the sends.
+use Rattle.std.specs.Prelude.{Option, Some, None, Ok, is_some, unwrap_or}
+use Rattle.std.proofs.lemmas.Option.{same_Some}
 use Prim.Native.Nat.{ℕ, zero, suc, ◌+◌, ◌<◌}
 use native.Mathlib.Omega.{arith}
 use native.Mathlib.Decide.{dec_lt}
 use mathlib.Core.Path.{◌≡◌, refl, sym, ap, ◌∙◌}
 use mathlib.Core.Bool.{Bool, true, false, cond, not, ◌&&◌, false≢true}
-use mathlib.Core.Option.{Option, none, some, get_or, some-injective}
 use mathlib.Core.List.{List}
 use borrow.Author.Tests.{eqb-true, eq-eqb}
 use lib.Dec.{eqb}
@@ -15,7 +16,6 @@ use Rattle.paper.specs.declared.Message.{Message}
 use Rattle.paper.specs.declared.Role.{Role}
 use Rattle.paper.specs.declared.Role.TheVariants.{Neither, Send, Receive}
 use Rattle.paper.specs.declared.Entry.{Entry}
-use Rattle.paper.specs.declared.Stop.TheVariants.{End}
 use Rattle.matching.proofs.Count.{count, bit, count_all}
 use Rattle.matching.proofs.Keys.{both}
 use Rattle.matching.proofs.Belong.{role_at, belongs}
@@ -26,19 +26,15 @@ use Rattle.matching.proofs.Into.{Into, at_most_lem}
 -- ---- a search below n
 
 unfoldable pub found : (ℕ → Bool) → ℕ → Option ℕ
-found p zero = none
-found p (suc n) = cond (p n) (some n) (found p n)
-
-unfoldable pub is_some : Option ℕ → Bool
-is_some none = false
-is_some (some i) = true
+found p zero = None
+found p (suc n) = cond (p n) (Some n) (found p n)
 
 found_one : (p : ℕ → Bool) (n i : ℕ) → i < n → p i ≡ true → is_some (found p n) ≡ true
-unfolding found is_some
+unfolding found
 found_one p zero i h e = absurd (omega arith)
 found_one p (suc n) i h e = go (p n) refl (λ l. found_one p n i l e)
   where
-    go : (t : Bool) → p n ≡ t → (i < n → is_some (found p n) ≡ true) → is_some (cond t (some n) (found p n)) ≡ true
+    go : (t : Bool) → p n ≡ t → (i < n → is_some (found p n) ≡ true) → is_some (cond t (Some n) (found p n)) ≡ true
     go true f rest = refl
     go false f rest = earlier (dec_lt i n)
       where
@@ -47,15 +43,15 @@ found_one p (suc n) i h e = go (p n) refl (λ l. found_one p n i l e)
         earlier (no l) = let z : i ≡ n = omega arith in absurd (false≢true (sym f ∙ rw z at e))
 
 found_is : (p : ℕ → Bool) (n : ℕ) → is_some (found p n) ≡ true
-    → (get_or (found p n) 0 < n) × (p (get_or (found p n) 0) ≡ true)
-unfolding found is_some
+    → (unwrap_or (found p n) 0 < n) × (p (unwrap_or (found p n) 0) ≡ true)
+unfolding found
 found_is p zero h = absurd (false≢true h)
 found_is p (suc n) h = go (p n) refl (λ g. found_is p n g) h
   where
     go : (t : Bool) → p n ≡ t
-        → (is_some (found p n) ≡ true → (get_or (found p n) 0 < n) × (p (get_or (found p n) 0) ≡ true))
-        → is_some (cond t (some n) (found p n)) ≡ true
-        → (get_or (cond t (some n) (found p n)) 0 < suc n) × (p (get_or (cond t (some n) (found p n)) 0) ≡ true)
+        → (is_some (found p n) ≡ true → (unwrap_or (found p n) 0 < n) × (p (unwrap_or (found p n) 0) ≡ true))
+        → is_some (cond t (Some n) (found p n)) ≡ true
+        → (unwrap_or (cond t (Some n) (found p n)) 0 < suc n) × (p (unwrap_or (cond t (Some n) (found p n)) 0) ≡ true)
     go true f rest g = (omega arith, f)
     go false f rest g = let (a, b) = rest g in (omega arith, b)
 
@@ -63,15 +59,15 @@ found_is p (suc n) h = go (p n) refl (λ g. found_is p n g) h
 
 -- the option is j
 unfoldable pub is_place : ℕ → Option ℕ → Bool
-is_place j none = false
-is_place j (some k) = eqb k j
+is_place j None = false
+is_place j (Some k) = eqb k j
 
-place_is : (j : ℕ) (o : Option ℕ) → is_place j o ≡ true → o ≡ some j
+place_is : (j : ℕ) (o : Option ℕ) → is_place j o ≡ true → o ≡ Some j
 unfolding is_place
-place_is j none h = absurd (false≢true h)
-place_is j (some k) h = ap (λ (x : ℕ). some x) (eqb-true k j h)
+place_is j None h = absurd (false≢true h)
+place_is j (Some k) h = ap (λ (x : ℕ). Some x) (eqb-true k j h)
 
-is_its_place : (j : ℕ) (o : Option ℕ) → o ≡ some j → is_place j o ≡ true
+is_its_place : (j : ℕ) (o : Option ℕ) → o ≡ Some j → is_place j o ≡ true
 unfolding is_place
 is_its_place j o e = rw e (eq-eqb j j refl)
 
@@ -111,11 +107,11 @@ receive_role : (r : Role) (m : Message) → r ≡ Receive m → is_receive r ≡
 unfolding is_receive
 receive_role r m e = rw e
 
-module _ (es : List Entry) (h : matched_of es ≡ End) where
+module _ (es : List Entry) (h : matched_of es ≡ Ok tt) where
   sent_from : ℕ → ℕ
-  sent_from i = get_or (send_of es i) 0
+  sent_from i = unwrap_or (send_of es i) 0
 
-  a_send : (i : ℕ) → i < length es → is_receive (role_at es i) ≡ true → send_of es i ≡ some (sent_from i)
+  a_send : (i : ℕ) → i < length es → is_receive (role_at es i) ≡ true → send_of es i ≡ Some (sent_from i)
   unfolding sent_from
   a_send i l e =
       let (m, r) = is_receive_role (role_at es i) e in
@@ -124,13 +120,13 @@ module _ (es : List Entry) (h : matched_of es ≡ End) where
 
   -- a receive that belongs to send j
   receiver_of : ℕ → ℕ
-  receiver_of j = get_or (found (λ i. is_place j (send_of es i)) (length es)) 0
+  receiver_of j = unwrap_or (found (λ i. is_place j (send_of es i)) (length es)) 0
 
-  belongs_to : (j : ℕ) → received es j ≡ true → (receiver_of j < length es) × (send_of es (receiver_of j) ≡ some j)
+  belongs_to : (j : ℕ) → received es j ≡ true → (receiver_of j < length es) × (send_of es (receiver_of j) ≡ Some j)
   unfolding received receiver_of
   belongs_to j e =
       let (a, b) = found_is (λ i. is_place j (send_of es i)) (length es) e in
-      (a, place_is j (send_of es (get_or (found (λ i. is_place j (send_of es i)) (length es)) 0)) b)
+      (a, place_is j (send_of es (unwrap_or (found (λ i. is_place j (send_of es i)) (length es)) 0)) b)
 
   -- each receive has a send of its own, which is then received
   to_sends : Into (receives es) (λ j. sends es j && received es j) sent_from (length es) (length es)
@@ -144,7 +140,7 @@ module _ (es : List Entry) (h : matched_of es ≡ End) where
             let taken : received es (sent_from i) ≡ true =
             found_one (λ k. is_place (sent_from i) (send_of es k)) (length es) i l (is_its_place (sent_from i) (send_of es i) s) in
             (b.within, rw (sent, taken));
-        apart = λ i k l g d e s. own_send es i k (sent_from i) l g (a_send i l d) (a_send k g e ∙ ap (λ (j : ℕ). some j) (sym s));
+        apart = λ i k l g d e s. own_send es i k (sent_from i) l g (a_send i l d) (a_send k g e ∙ ap (λ (j : ℕ). Some j) (sym s));
       }
 
   -- each send that is received has a receive of its own
@@ -158,7 +154,7 @@ module _ (es : List Entry) (h : matched_of es ≡ End) where
         apart = λ j k l g d e s.
             let (a, x) = belongs_to j (both (sends es j) (received es j) d).1 in
             let (b, y) = belongs_to k (both (sends es k) (received es k) e).1 in
-            some-injective j k (sym x ∙ ap (send_of es) s ∙ y);
+            same_Some j k (sym x ∙ ap (send_of es) s ∙ y);
       }
 
   -- "matched messages": the sends that are received

@@ -1,12 +1,11 @@
 -- Of each of the sixty-four processors the place of its last entry that passes a test, kept in a table while the entries are gone over.
+use Rattle.std.specs.Prelude.{Some, unwrap_or}
 use Prim.Native.Nat.{ℕ, ◌+◌, ◌<◌}
 use native.Mathlib.Omega.{arith}
 use native.Mathlib.Numerals.{add-one}
 use native.Mathlib.Decide.{ℕ_discrete}
 use mathlib.Core.Path.{◌≡◌, refl, sym, ◌∙◌}
 use mathlib.Core.Bool.{Bool, true, false, cond}
-use mathlib.Core.Option
-use mathlib.Core.Option.{some}
 use mathlib.Core.List.{List}
 use lib.ListN.{length, get_or, set, replicate, length-set, length-replicate, get_or-replicate}
 use lib.Seq.{get_or-set_same, get_or-set_other}
@@ -16,7 +15,7 @@ use Rattle.paper.specs.declared.Entry.{Entry}
 -- of each processor the place of the last of the first i entries that passes its test, n where there is none
 pub record EachLast (test : ℕ → Entry → Bool) (n : ℕ) (es : List Entry) (i : ℕ) (last : List ℕ) : Type 0 where
   pub size : length last ≡ 64
-  pub each : (p : ℕ) → p < 64 → get_or last p 0 ≡ Option.get_or (last_of (test p) es i) n
+  pub each : (p : ℕ) → p < 64 → get_or last p 0 ≡ unwrap_or (last_of (test p) es i) n
 
 module _ (test : ℕ → Entry → Bool) (n : ℕ) (es : List Entry) where
   pub each_none : EachLast test n es 0 (replicate 64 n)
@@ -31,11 +30,11 @@ module _ (test : ℕ → Entry → Bool) (n : ℕ) (es : List Entry) where
     each_more {i} {last} h {p} here low k is =
         record { size = simp length-set h.size; each = λ q q<. rw (add-one i) (go q q< (ℕ_discrete q p)) }
       where
-        at_its_own : (t : Bool) → cond t i (get_or last p 0) ≡ Option.get_or (cond t (some i) (last_of (test p) es i)) n
+        at_its_own : (t : Bool) → cond t i (get_or last p 0) ≡ unwrap_or (cond t (Some i) (last_of (test p) es i)) n
         at_its_own true = refl
         at_its_own false = h.each p low
 
-        go : (q : ℕ) → q < 64 → Dec (q ≡ p) → get_or (set last p k) q 0 ≡ Option.get_or (cond (test q (entry_at es i)) (some i) (last_of (test q) es i)) n
+        go : (q : ℕ) → q < 64 → Dec (q ≡ p) → get_or (set last p k) q 0 ≡ unwrap_or (cond (test q (entry_at es i)) (Some i) (last_of (test q) es i)) n
         go q q< (yes z) =
             rw z (get_or-set_same last p k 0 (omega (arith, h.size)) ∙ is ∙ at_its_own (test p (entry_at es i)))
         go q q< (no z) =

@@ -1,10 +1,10 @@
 -- The last of the first i entries that passes a test, for any test: what `last_of` comes to, and back.
+use Rattle.std.specs.Prelude.{Option, Some, None}
 use Prim.Native.Nat.{ℕ, zero, suc, ◌<◌}
 use native.Mathlib.Omega.{arith}
 use native.Mathlib.Decide.{dec_lt}
 use mathlib.Core.Path.{◌≡◌, refl, sym, ap, ◌∙◌}
 use mathlib.Core.Bool.{Bool, true, false, cond, true≢false}
-use mathlib.Core.Option.{Option, none, some}
 use mathlib.Core.List.{List}
 use Rattle.paper.specs.Matching.{entry_at, last_of}
 use Rattle.paper.specs.declared.Entry.{Entry}
@@ -21,8 +21,8 @@ NoneOf test es i = (k : ℕ) → k < i → test (entry_at es k) ≡ false
 
 module _ (test : Entry → Bool) (es : List Entry) where
   abbrev Told : ℕ → Option ℕ → Type 0
-  Told i none = NoneOf test es i
-  Told i (some j) = LastOf test es i j
+  Told i None = NoneOf test es i
+  Told i (Some j) = LastOf test es i j
 
   -- what fails at i and below it fails below the next place
   further : (i : ℕ) → test (entry_at es i) ≡ false → (k : ℕ) → k < suc i → Dec (k < i) → (k < i → test (entry_at es k) ≡ false)
@@ -35,20 +35,20 @@ module _ (test : Entry → Bool) (es : List Entry) where
   told zero = λ k l. absurd (omega arith)
   told (suc i) = go (test (entry_at es i)) refl (last_of test es i) (told i)
     where
-      go : (t : Bool) → test (entry_at es i) ≡ t → (o : Option ℕ) → Told i o → Told (suc i) (cond t (some i) o)
+      go : (t : Bool) → test (entry_at es i) ≡ t → (o : Option ℕ) → Told i o → Told (suc i) (cond t (Some i) o)
       go true e o f = record { before = omega arith; passes = e; none_between = λ k a b. absurd (omega arith) }
-      go false e none f = λ k b. further i e k b (dec_lt k i) (f k)
-      go false e (some j) f =
+      go false e None f = λ k b. further i e k b (dec_lt k i) (f k)
+      go false e (Some j) f =
           record {
             before = omega (arith, f.before);
             passes = f.passes;
             none_between = λ k a b. further i e k b (dec_lt k i) (f.none_between k a);
           }
 
-  pub last_of_lem : (i j : ℕ) → last_of test es i ≡ some j → LastOf test es i j
+  pub last_of_lem : (i j : ℕ) → last_of test es i ≡ Some j → LastOf test es i j
   last_of_lem i j h = rw h at (told i)
 
-  pub none_of : (i : ℕ) → last_of test es i ≡ none → NoneOf test es i
+  pub none_of : (i : ℕ) → last_of test es i ≡ None → NoneOf test es i
   none_of i h = rw h at (told i)
 
   -- ---- and back: there is one last only
@@ -59,16 +59,16 @@ module _ (test : Entry → Bool) (es : List Entry) where
   one_last : (i j k : ℕ) → LastOf test es i j → LastOf test es i k → j ≡ k
   one_last i j k f g = let a = none_later i j k f g in let b = none_later i k j g f in omega arith
 
-  pub last_back : (i j : ℕ) → LastOf test es i j → last_of test es i ≡ some j
+  pub last_back : (i j : ℕ) → LastOf test es i j → last_of test es i ≡ Some j
   last_back i j f = go (last_of test es i) (told i)
     where
-      go : (o : Option ℕ) → Told i o → o ≡ some j
-      go none g = absurd (true≢false (sym f.passes ∙ g j f.before))
-      go (some k) g = ap some (one_last i k j g f)
+      go : (o : Option ℕ) → Told i o → o ≡ Some j
+      go None g = absurd (true≢false (sym f.passes ∙ g j f.before))
+      go (Some k) g = ap Some (one_last i k j g f)
 
-  pub none_back : (i : ℕ) → NoneOf test es i → last_of test es i ≡ none
+  pub none_back : (i : ℕ) → NoneOf test es i → last_of test es i ≡ None
   none_back i f = go (last_of test es i) (told i)
     where
-      go : (o : Option ℕ) → Told i o → o ≡ none
-      go none g = refl
-      go (some k) g = absurd (true≢false (sym g.passes ∙ f k g.before))
+      go : (o : Option ℕ) → Told i o → o ≡ None
+      go None g = refl
+      go (Some k) g = absurd (true≢false (sym g.passes ∙ f k g.before))

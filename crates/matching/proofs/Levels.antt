@@ -1,8 +1,7 @@
 -- The times do not matter to the levels: of entries that differ in nothing else, 17 says the same.
+use Rattle.std.specs.Prelude.{Option, Some, None, option_map}
 use Prim.Native.Nat.{ℕ, zero, suc}
 use mathlib.Core.Path.{◌≡◌, refl, sym, ap, ◌∙◌}
-use mathlib.Core.Option
-use mathlib.Core.Option.{Option, none, some}
 use mathlib.Core.List.{List, map}
 use lib.ListN.{length, length-map}
 use Rattle.paper.specs.Levels.{counts, is_mark, agrees, off_at, levels_from, levels_of}
@@ -18,12 +17,12 @@ mark_untimed processor e = refl
 module _ (a : Asked) (es : List Entry) where
   agrees_untimed : (o : Option ℕ) → agrees a (map untimed es) o ≡ agrees a es o
   unfolding agrees
-  agrees_untimed none = refl
-  agrees_untimed (some k) = rw (entry_untimed es k)
+  agrees_untimed None = refl
+  agrees_untimed (Some k) = rw (entry_untimed es k)
 
-  line_untimed : (o : Option ℕ) → Option.map (λ k. (entry_at (map untimed es) k).line) o ≡ Option.map (λ k. (entry_at es k).line) o
-  line_untimed none = refl
-  line_untimed (some k) = rw (entry_untimed es k)
+  line_untimed : (o : Option ℕ) → option_map (λ k. (entry_at (map untimed es) k).line) o ≡ option_map (λ k. (entry_at es k).line) o
+  line_untimed None = refl
+  line_untimed (Some k) = rw (entry_untimed es k)
 
   off_untimed : (processor : ℕ) → off_at a (map untimed es) processor ≡ off_at a es processor
   unfolding off_at

@@ -1,10 +1,10 @@
 -- Every receive has one send of its own: no send serves two receives.
+use Rattle.std.specs.Prelude.{Some}
 use Prim.Native.Nat.{ℕ, ◌≤◌, ◌<◌}
 use native.Mathlib.Omega.{arith}
 use native.Mathlib.Decide.{dec_lt}
 use mathlib.Core.Path.{◌≡◌, sym, ap, ◌∙◌}
 use mathlib.Core.Bool.{true}
-use mathlib.Core.Option.{some}
 use mathlib.Core.List.{List}
 use lib.ListN.{length, take}
 use Rattle.paper.specs.Matching.{Key, count_if, is_receive_of, receives_under, entry_at, send_of}
@@ -38,7 +38,7 @@ module _ (es : List Entry) where
       → b ≡ send_key (processor_at es j) t → a ≡ b
   one_key j a b s t rs rt ea eb = let e : s ≡ t = cc in ea ∙ ap (send_key (processor_at es j)) e ∙ sym eb
 
-  later_not : (i k j : ℕ) → i < k → k ≤ length es → send_of es i ≡ some j → send_of es k ≡ some j → ⊥
+  later_not : (i k j : ℕ) → i < k → k ≤ length es → send_of es i ≡ Some j → send_of es k ≡ Some j → ⊥
   unfolding send_of
   later_not i k j h l ei ek =
       let (m, ri, pi) = is_receive es i (processor_at es i) (role_at es i) j ei in
@@ -53,7 +53,7 @@ module _ (es : List Entry) where
       let grows = rank_grows a i k h l (receives_own (processor_at es i) m (role_at es i) ri) in
       omega (arith, fi.rank, rw (← same) at fk.rank)
 
-  pub own_send : (i k j : ℕ) → i < length es → k < length es → send_of es i ≡ some j → send_of es k ≡ some j → i ≡ k
+  pub own_send : (i k j : ℕ) → i < length es → k < length es → send_of es i ≡ Some j → send_of es k ≡ Some j → i ≡ k
   own_send i k j hi hk ei ek = go (dec_lt i k) (dec_lt k i)
     where
       go : Dec (i < k) → Dec (k < i) → i ≡ k

@@ -1,10 +1,11 @@
 -- The place of the k-th send under a key: the send under the key that has k such sends before it.
+use Rattle.std.specs.Prelude.{Option, Some, None, option_map}
+use Rattle.std.proofs.lemmas.Option.{none-some}
 use Prim.Native.Nat.{ℕ, zero, suc, ◌+◌, ◌≤◌, ◌<◌}
 use native.Mathlib.Omega.{arith}
 use native.Mathlib.Decide.{dec_lt}
 use mathlib.Core.Path.{◌≡◌, refl, sym, ap, ◌∙◌}
 use mathlib.Core.Bool.{Bool, true, false, cond, true≢false}
-use mathlib.Core.Option.{Option, none, some, none-ne-some, map}
 use mathlib.Core.List.{List, [], ◌∷◌}
 use lib.ListN.{length}
 use Rattle.paper.specs.Matching.{Key, is_send_of, send_place, entry_at}
@@ -19,17 +20,17 @@ pub record Kth (p : ℕ → Bool) (n k j : ℕ) : Type 0 where
 
 -- an option answers which number is the k-th
 pub record Answers (p : ℕ → Bool) (n k : ℕ) (o : Option ℕ) : Type 0 where
-  pub sound : (j : ℕ) → o ≡ some j → Kth p n k j
-  pub whole : (j : ℕ) → Kth p n k j → o ≡ some j
+  pub sound : (j : ℕ) → o ≡ Some j → Kth p n k j
+  pub whole : (j : ℕ) → Kth p n k j → o ≡ Some j
 
 -- ---- one entry more in front
 
 abbrev shifted : (ℕ → Bool) → ℕ → Bool
 shifted p i = p (suc i)
 
-later_some : (o : Option ℕ) (j : ℕ) → map suc o ≡ some j → (i : ℕ) × (j ≡ suc i) × (o ≡ some i)
-later_some none j e = absurd (none-ne-some j e)
-later_some (some i) j e = (i, cc, refl)
+later_some : (o : Option ℕ) (j : ℕ) → option_map suc o ≡ Some j → (i : ℕ) × (j ≡ suc i) × (o ≡ Some i)
+later_some None j e = absurd (none-some j e)
+later_some (Some i) j e = (i, cc, refl)
 
 module _ (p : ℕ → Bool) (n : ℕ) where
   kth_later : (k i : ℕ) → Kth (shifted p) n k i → Kth p (suc n) (bit (p 0) + k) (suc i)
@@ -41,7 +42,7 @@ module _ (p : ℕ → Bool) (n : ℕ) where
       record { within = omega (arith, h.within); passes = h.passes; rank = omega (arith, h.rank, count_front p i) }
 
   answer_later : (k : ℕ) (o : Option ℕ) → ((j : ℕ) → Kth p (suc n) (bit (p 0) + k) j → (i : ℕ) × (j ≡ suc i))
-      → Answers (shifted p) n k o → Answers p (suc n) (bit (p 0) + k) (map suc o)
+      → Answers (shifted p) n k o → Answers p (suc n) (bit (p 0) + k) (option_map suc o)
   answer_later k o pos a =
       record {
         sound = λ j e. let (i, s, f) = later_some o j e in rw s (kth_later k i (a.sound i f));
@@ -57,12 +58,12 @@ module _ (p : ℕ → Bool) (n : ℕ) where
   past_first k zero h = absurd (omega (arith, h.rank))
   past_first k (suc i) h = (i, refl)
 
-  only_first : p 0 ≡ true → (j : ℕ) → Kth p (suc n) 0 j → some 0 ≡ some j
+  only_first : p 0 ≡ true → (j : ℕ) → Kth p (suc n) 0 j → Some 0 ≡ Some j
   unfolding bit
   only_first e zero h = refl
   only_first e (suc i) h = absurd (omega (arith, h.rank, rw e at (count_front p i)))
 
-  no_answers : (k : ℕ) (o : Option ℕ) → p 0 ≡ false → Answers (shifted p) n k o → Answers p (suc n) k (map suc o)
+  no_answers : (k : ℕ) (o : Option ℕ) → p 0 ≡ false → Answers (shifted p) n k o → Answers p (suc n) k (option_map suc o)
   unfolding bit
   no_answers k o e a =
       let z : bit (p 0) + k ≡ k = rw e (omega arith) in
@@ -70,7 +71,7 @@ module _ (p : ℕ → Bool) (n : ℕ) where
 
   -- the 0-th is the first itself, where that passes
   first_answers : (t : Bool) (o : Option ℕ) → p 0 ≡ t → Answers (shifted p) n 0 o
-      → Answers p (suc n) 0 (cond t (some 0) (map suc o))
+      → Answers p (suc n) 0 (cond t (Some 0) (option_map suc o))
   unfolding count
   first_answers true o e a =
       record {
@@ -80,7 +81,7 @@ module _ (p : ℕ → Bool) (n : ℕ) where
   first_answers false o e a = no_answers 0 o e a
 
   next_answers : (t : Bool) (k : ℕ) (o r : Option ℕ) → p 0 ≡ t → Answers (shifted p) n k o → Answers (shifted p) n (suc k) r
-      → Answers p (suc n) (suc k) (cond t (map suc o) (map suc r))
+      → Answers p (suc n) (suc k) (cond t (option_map suc o) (option_map suc r))
   unfolding bit
   next_answers true k o r e a b =
       let z : bit (p 0) + k ≡ suc k = rw e (omega arith) in
@@ -93,10 +94,10 @@ module _ (p : ℕ → Bool) (n : ℕ) where
 abbrev pub send_at : Key → List Entry → ℕ → Bool
 send_at key es i = is_send_of key (entry_at es i)
 
-no_kth : (p : ℕ → Bool) (k : ℕ) → Answers p 0 k none
+no_kth : (p : ℕ → Bool) (k : ℕ) → Answers p 0 k None
 no_kth p k =
     record {
-      sound = λ j e. absurd (none-ne-some j e);
+      sound = λ j e. absurd (none-some j e);
       whole = λ j h. absurd (omega (arith, h.within));
     }
 
@@ -108,9 +109,9 @@ place_answers key (suc k) (e ∷ es) =
     next_answers (send_at key (e ∷ es)) (length es) (is_send_of key e) k _ _ refl (place_answers key k es) (place_answers key (suc k) es)
 
 -- there is no k-th where no more than k pass
-pub no_more : (p : ℕ → Bool) (n k : ℕ) (o : Option ℕ) → Answers p n k o → count p n ≤ k → o ≡ none
-no_more p n k none a h = refl
-no_more p n k (some j) a h = let b = a.sound j refl in absurd (omega (arith, b.rank, count_less p j n b.within b.passes))
+pub no_more : (p : ℕ → Bool) (n k : ℕ) (o : Option ℕ) → Answers p n k o → count p n ≤ k → o ≡ None
+no_more p n k None a h = refl
+no_more p n k (Some j) a h = let b = a.sound j refl in absurd (omega (arith, b.rank, count_less p j n b.within b.passes))
 
 -- where more than k pass there is a k-th
 pub find_kth : (p : ℕ → Bool) (k n : ℕ) → k < count p n → (j : ℕ) × Kth p n k j
@@ -126,11 +127,11 @@ find_kth p k (suc n) h = go (λ g. find_kth p k n g) (dec_lt k (count p n)) (p n
     go f (no g) true e = (n, record { within = omega arith; passes = e; rank = omega (arith, count_yes p n e) })
     go f (no g) false e = absurd (omega (arith, count_no p n e))
 
-pub none_left : (p : ℕ → Bool) (n k : ℕ) (o : Option ℕ) → Answers p n k o → o ≡ none → count p n ≤ k
+pub none_left : (p : ℕ → Bool) (n k : ℕ) (o : Option ℕ) → Answers p n k o → o ≡ None → count p n ≤ k
 none_left p n k o a e = go (dec_lt k (count p n))
   where
     go : Dec (k < count p n) → count p n ≤ k
     go (yes h) =
         let (j, f) = find_kth p k n h in
-        absurd (none-ne-some j (sym e ∙ a.whole j f))
+        absurd (none-some j (sym e ∙ a.whole j f))
     go (no h) = omega arith

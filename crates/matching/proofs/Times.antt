@@ -1,9 +1,9 @@
 -- The times do not matter to the matching: entries that differ in nothing else are matched alike. What is read again from a
 -- written trace differs from what was read in the times alone.
+use Rattle.std.specs.Prelude.{Option, Some, None}
 use Prim.Native.Nat.{ℕ, zero, suc, ◌+◌}
 use mathlib.Core.Path.{◌≡◌, refl, sym, ap, ◌∙◌}
 use mathlib.Core.Bool.{Bool}
-use mathlib.Core.Option.{Option, none, some}
 use mathlib.Core.List.{List, [], ◌∷◌, map}
 use lib.ListN.{length, take, length-map, get_or-map}
 use lib.IntN.{pos}
@@ -70,8 +70,8 @@ module _ (es : List Entry) where
 
   call_untimed : (received : ℕ) (o : Option ℕ) → call_of (map untimed es) received o ≡ call_of es received o
   unfolding call_of
-  call_untimed received none = refl
-  call_untimed received (some j) = rw (entry_untimed es j)
+  call_untimed received None = refl
+  call_untimed received (Some j) = rw (entry_untimed es j)
 
   call_for_untimed : (i : ℕ) (r : Role) → call_for (map untimed es) i r ≡ call_for es i r
   unfolding call_for

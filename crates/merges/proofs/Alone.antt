@@ -1,23 +1,23 @@
 -- A trace by itself: what stops its reading is what a judging call on it is refused for, 4 to 12.
+use Rattle.std.specs.Prelude.{Some, Ok}
+use Rattle.std.proofs.lemmas.Option.{same_Some}
 use Prim.Native.Nat.{ℕ, ◌≤◌}
 use native.Mathlib.Omega.{arith}
 use native.Mathlib.Decide.{ℕ_discrete, dec_le}
 use mathlib.Core.Path.{◌≡◌, refl, sym, ap, ◌∙◌}
-use mathlib.Core.Option.{some}
 use mathlib.Core.List.{List}
 use lib.ListN.{length, length-replicate, get_or-replicate}
 use lib.IntN.{pos}
 use borrow.Author.Tests.{le-leb, lt-leb}
 use Rattle.paper.specs.Numbers.{number_of}
-use Rattle.paper.specs.Columns.{nowhere}
+use Rattle.paper.specs.Columns.{nowhere, refused_at}
 use Rattle.paper.specs.Reading.{Reading, lines_of, start}
 use Rattle.paper.specs.Answer.{given, most, longest, choice_of, heard}
 use Rattle.paper.specs.Merging.{most_alone, read_alone, stop_alone, tally_of, lines_in}
 use Rattle.paper.specs.declared.Choice.{Choice}
 use Rattle.paper.specs.declared.Fault.{Fault}
-use Rattle.paper.specs.declared.Fault.TheVariants as Fault
 use Rattle.paper.specs.declared.Site.{Site}
-use Rattle.paper.specs.declared.Stop.TheVariants.{End, At}
+use Rattle.paper.proofs.Refusals.{same_fault, same_site}
 use Rattle.forms.proofs.Tests.{never}
 use Rattle.reading.specs.Joined.{AllEnded, line_count}
 use Rattle.reading.proofs.Along.{Reads, along}
@@ -41,17 +41,17 @@ low_latencies : (n : ℕ) (s : List ℕ) → LowLatencies (alone n s)
 unfolding alone
 low_latencies n s k l = rw (get_or-replicate {A = ℕ} 4096 k 0 0 (rw length-replicate at l)) (omega arith)
 
-pub alone_chosen : (n : ℕ) (s : List ℕ) (choice : Choice) → choice_of n ≡ some choice → Chosen (alone n s) choice
+pub alone_chosen : (n : ℕ) (s : List ℕ) (choice : Choice) → choice_of n ≡ Some choice → Chosen (alone n s) choice
 unfolding alone heard
 alone_chosen n s choice e = e
 
-pub chosen_alone : (n : ℕ) (s : List ℕ) (choice : Choice) → Chosen (alone n s) choice → choice_of n ≡ some choice
+pub chosen_alone : (n : ℕ) (s : List ℕ) (choice : Choice) → Chosen (alone n s) choice → choice_of n ≡ Some choice
 unfolding alone heard
 chosen_alone n s choice e = e
 
 -- what a caller names is one choice
-pub one_choice : (n : ℕ) (a b : Choice) → choice_of n ≡ some a → choice_of n ≡ some b → a ≡ b
-one_choice n a b p q = let same : some a ≡ some b = sym p ∙ q in cc
+pub one_choice : (n : ℕ) (a b : Choice) → choice_of n ≡ Some a → choice_of n ≡ Some b → a ≡ b
+one_choice n a b p q = same_Some a b (sym p ∙ q)
 
 -- ---- its lines
 
@@ -67,23 +67,23 @@ module _ (s : List ℕ) (choice : Choice) where
   unfolding stop_alone
   stop_short short = rw (le-leb _ _ short)
 
-  stop_long : ¬ (length s ≤ longest) → stop_alone choice s ≡ At Fault.LongTrace nowhere
+  stop_long : ¬ (length s ≤ longest) → stop_alone choice s ≡ refused_at Fault.LongTrace nowhere
   unfolding stop_alone
   stop_long long = rw (lt-leb (length s) longest (omega arith))
 
 module _ (n : ℕ) (s : List ℕ) where
   -- ---- 4 to 12 are not called for
 
-  pub stop_read : (choice : Choice) → Read (alone n s) choice → stop_alone choice s ≡ End
+  pub stop_read : (choice : Choice) → Read (alone n s) choice → stop_alone choice s ≡ Ok tt
   unfolding alone
   stop_read choice r = stop_short s choice r.begun.short ∙ sym (read_stop n s choice) ∙ r.whole
 
-  module _ (choice : Choice) (chosen : choice_of n ≡ some choice) where
+  module _ (choice : Choice) (chosen : choice_of n ≡ Some choice) where
     begun : length s ≤ longest → Begun (alone n s) choice
     unfolding alone
     begun short = record { chosen = alone_chosen n s choice chosen; sizes = right_sizes n s; low = low_latencies n s; short = short }
 
-    pub read_of : stop_alone choice s ≡ End → Read (alone n s) choice
+    pub read_of : stop_alone choice s ≡ Ok tt → Read (alone n s) choice
     read_of e = go (dec_le (length s) longest)
       where
         go : Dec (length s ≤ longest) → Read (alone n s) choice
@@ -92,7 +92,7 @@ module _ (n : ℕ) (s : List ℕ) where
 
     -- ---- one of them is
 
-    pub row_of : (fault : Fault) (site : Site) → stop_alone choice s ≡ At fault site → OfATrace fault × When (alone n s) fault site
+    pub row_of : (fault : Fault) (site : Site) → stop_alone choice s ≡ refused_at fault site → OfATrace fault × When (alone n s) fault site
     unfolding alone When number_of
     row_of fault site e = go (dec_le (length s) longest)
       where
@@ -103,19 +103,17 @@ module _ (n : ℕ) (s : List ℕ) where
             let (low, high) = line_number (alone n s) fault site bad in
             ((omega (arith, low), high), when_line (alone n s) fault site bad)
         go (no long) =
-            let other = stop_long s choice long in
-            let same : Fault.LongTrace ≡ fault = cc in
-            let there : nowhere ≡ site = cc in
-            rw (← same, ← there)
+            let refused : refused_at Fault.LongTrace nowhere ≡ refused_at fault site = sym (stop_long s choice long) ∙ e in
+            rw (← same_fault refused, ← same_site refused)
             ((omega arith, omega arith), (choice, alone_chosen n s choice chosen, right_sizes n s, low_latencies n s, long, refl))
 
   pub stop_row : (fault : Fault) (site : Site) → OfATrace fault → When (alone n s) fault site
-      → (choice : Choice) × (choice_of n ≡ some choice) × (stop_alone choice s ≡ At fault site)
+      → (choice : Choice) × (choice_of n ≡ Some choice) × (stop_alone choice s ≡ refused_at fault site)
   unfolding alone When number_of
   stop_row fault site (low, high) when = go (ℕ_discrete (number_of fault) (number_of Fault.LongTrace))
     where
       go : Dec (number_of fault ≡ number_of Fault.LongTrace)
-          → (choice : Choice) × (choice_of n ≡ some choice) × (stop_alone choice s ≡ At fault site)
+          → (choice : Choice) × (choice_of n ≡ Some choice) × (stop_alone choice s ≡ refused_at fault site)
       go (yes e) =
           let same = one_fault fault Fault.LongTrace e in
           let (choice, chosen, lengths, lows, long, there) = rw same at when in

@@ -1,7 +1,7 @@
 -- Two traces that are read to their ends: the choice that is named, and the merged bytes of the two.
+use Rattle.std.specs.Prelude.{Some}
 use Prim.Native.Nat.{◌+◌}
 use mathlib.Core.Path.{◌≡◌}
-use mathlib.Core.Option.{some}
 use lib.ListN.{length}
 use Rattle.paper.specs.Reading.{lines_of}
 use Rattle.paper.specs.Answer.{choice_of}
@@ -13,7 +13,7 @@ use Rattle.merges.proofs.Lines.{merged_lines_lem, merged_length}
 use Rattle.merges.proofs.Alone.{chosen_alone, alone_ended}
 
 module _ (i : Merging) (both : Both i) where
-  pub both_chosen : choice_of i.choice ≡ some both.choice
+  pub both_chosen : choice_of i.choice ≡ Some both.choice
   both_chosen = chosen_alone i.choice i.first both.choice both.reads_first.begun.chosen
 
   first_ended : AllEnded (lines_of i.first)

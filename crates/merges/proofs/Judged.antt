@@ -1,25 +1,24 @@
 -- The merged bytes judged: of 4 to 12 only 4 and 12 are given, by what the two traces have together.
+use Rattle.std.specs.Prelude.{Some, None}
 use Prim.Native.Nat.{ℕ, ◌+◌, ◌≤◌, ◌<◌}
 use native.Mathlib.Omega.{arith}
 use native.Mathlib.Decide.{dec_le}
-use mathlib.Core.Path.{◌≡◌, refl, ap, ◌∙◌}
+use mathlib.Core.Path.{◌≡◌, refl, sym, ap, ◌∙◌}
 use mathlib.Core.Logic.{◌⊎◌, inl, inr, ◌↔◌}
 use mathlib.Core.Bool.{Bool, true, false, cond, ◌&&◌}
-use mathlib.Core.Option.{none, some}
 use mathlib.Core.List.{List}
 use lib.ListN.{length}
 use lib.Dec.{leb}
 use Rattle.paper.specs.Numbers.{number_of}
-use Rattle.paper.specs.Columns.{nowhere, whole_line}
+use Rattle.paper.specs.Columns.{nowhere, whole_line, refused_at}
 use Rattle.paper.specs.Reading.{read_of}
 use Rattle.paper.specs.Answer.{Inputs, given, most, longest, choice_of, heard}
 use Rattle.paper.specs.Merging.{Merging}
 use Rattle.paper.specs.declared.Asked.{Asked}
 use Rattle.paper.specs.declared.Choice.{Choice}
 use Rattle.paper.specs.declared.Fault.{Fault}
-use Rattle.paper.specs.declared.Fault.TheVariants as Fault
 use Rattle.paper.specs.declared.Site.{Site}
-use Rattle.paper.specs.declared.Stop.TheVariants.{At}
+use Rattle.paper.proofs.Refusals.{same_fault}
 use Rattle.forms.proofs.Tests.{never}
 use Rattle.demands.specs.Parts.{number, site}
 use Rattle.demands.specs.Steps.{Chosen, RightSizes, LowLatencies, Begun, reading, Accepted}
@@ -36,11 +35,11 @@ use Rattle.merges.proofs.Both.{both_chosen}
 use Rattle.merges.proofs.Left.{trace_long}
 use Rattle.merges.proofs.Reread.{reads_whole, stops_full}
 
-heard_choice : (a : Asked) (choice : Choice) → heard a ≡ some choice → choice_of a.choice ≡ some choice
+heard_choice : (a : Asked) (choice : Choice) → heard a ≡ Some choice → choice_of a.choice ≡ Some choice
 unfolding heard
 heard_choice a choice e = go (leb a.levels 1 && leb a.statistics 1) e
   where
-    go : (t : Bool) → cond t (choice_of a.choice) none ≡ some choice → choice_of a.choice ≡ some choice
+    go : (t : Bool) → cond t (choice_of a.choice) None ≡ Some choice → choice_of a.choice ≡ Some choice
     go true e = e
     go false e = cc
 
@@ -56,7 +55,8 @@ module _ (i : Merging) (joins : Joins i) (j : Inputs) (judges : Judges i j) wher
 
   -- ---- 5 to 12
 
-  stops_many : (fault : Fault) (s : Site) → (reading j choice).stop ≡ At fault s → (fault ≡ Fault.TooMany) × (most (given j) < listed_of_both i choice)
+  stops_many : (fault : Fault) (s : Site) → (reading j choice).stop ≡ refused_at fault s
+      → (fault ≡ Fault.TooMany) × (most (given j) < listed_of_both i choice)
   stops_many fault s e = go (dec_le (listed_of_both i choice) (most (given j)))
     where
       go : Dec (listed_of_both i choice ≤ most (given j)) → (fault ≡ Fault.TooMany) × (most (given j) < listed_of_both i choice)
@@ -64,7 +64,8 @@ module _ (i : Merging) (joins : Joins i) (j : Inputs) (judges : Judges i j) wher
       go (no h) =
           let more : most (given j) < listed_of_both i choice = omega arith in
           let (n, full) = stops_full i joins (most (given j)) more in
-          (cc, more)
+          let refused : refused_at fault s ≡ refused_at Fault.TooMany (whole_line n) = sym e ∙ reading_is ∙ full in
+          (same_fault refused, more)
 
   of_lines : 5 ≤ number j → number j ≤ 12 → (number j ≡ 12) × (most (given j) < listed_of_both i choice)
   unfolding number_of

@@ -1,4 +1,5 @@
 -- What joined traces leave in the room: the merged bytes at its start, and what was behind them as it was.
+use Rattle.std.specs.Prelude.{Ok}
 use Prim.Native.Nat.{ℕ, ◌+◌}
 use native.Mathlib.Omega.{arith}
 use mathlib.Core.Path.{◌≡◌, sym, ap, ◌∙◌}
@@ -8,9 +9,8 @@ use lib.Seq.{take-append_seam, drop-append_seam}
 use Rattle.paper.specs.Reading.{lines_of}
 use Rattle.paper.specs.Merging.{merged_bytes, tally_of, lines_in, Merging, Mergence, joined, merged_of, MergeOutcome, join, merge}
 use Rattle.paper.specs.declared.Choice.{Choice}
-use Rattle.paper.specs.declared.Joined.{Joined}
-use Rattle.paper.specs.declared.Joint.TheVariants.{Of}
 use Rattle.paper.specs.declared.Tally.{Tally}
+use Rattle.paper.specs.declared.Joined.{Joined}
 use Rattle.reading.specs.Joined.{line_count}
 use Rattle.reading.specs.Mixed.{Mixed}
 use Rattle.reading.proofs.MixedLines.{mixed_count}
@@ -75,7 +75,7 @@ module _ (i : Merging) (j : Joins i) where
       )
       (sym (mixed_count lines_mixed))
 
-  pub all_told : (all : Joined) → (join i).joint ≡ Of all → ToldOf i choice all
+  pub all_told : (all : Joined) → (join i).joint ≡ Ok all → ToldOf i choice all
   unfolding joined
   all_told all e =
       let is = sym e ∙ ap (λ (m : Mergence). m.joint) join_is in

@@ -1,6 +1,6 @@
 -- The sixth change request holds of the merging call. specs/ says what each field is, with the request's sentence.
+use Rattle.std.specs.Prelude.{Some}
 use mathlib.Core.Path.{◌≡◌, sym, ◌∙◌}
-use mathlib.Core.Option.{some}
 use mathlib.Core.List.{[]}
 use Rattle.paper.specs.Answer.{choice_of}
 use Rattle.paper.specs.Merging.{Merging}
@@ -43,7 +43,7 @@ module _ (i : Merging) (joins : Joins i) where
         too_many_lem = too_many_lem i joins;
       }
 
-  merged_under : (choice : Choice) → choice_of i.choice ≡ some choice → MergedTrace i choice
+  merged_under : (choice : Choice) → choice_of i.choice ≡ Some choice → MergedTrace i choice
   merged_under choice e = rw (one_choice i.choice joins.both.choice choice (both_chosen i joins.both) e) at merged_trace_lem
 
 pub merging_request : Merges

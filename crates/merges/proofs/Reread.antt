@@ -1,18 +1,18 @@
 -- The merged bytes read: as many records are listed and as many lines passed over as of the two traces together, and a limit on the records
 -- is all that can stop it.
+use Rattle.std.specs.Prelude.{Ok}
 use Prim.Native.Nat.{ℕ, suc, ◌≤◌, ◌<◌}
 use native.Mathlib.Omega.{arith}
 use mathlib.Core.Path.{◌≡◌, refl, ap, ◌∙◌}
 use mathlib.Core.List.{List, [], ◌∷◌}
 use lib.ListN.{length}
-use Rattle.paper.specs.Columns.{whole_line}
+use Rattle.paper.specs.Columns.{whole_line, refused_at}
 use Rattle.paper.specs.Reading.{lines_of, start, Reading, read_of}
 use Rattle.paper.specs.Matching.{entry_at}
 use Rattle.paper.specs.Merging.{Merging}
 use Rattle.paper.specs.declared.Choice.{Choice}
 use Rattle.paper.specs.declared.Entry.{Entry}
 use Rattle.paper.specs.declared.Fault.TheVariants as Fault
-use Rattle.paper.specs.declared.Stop.TheVariants.{End, At}
 use Rattle.matching.specs.Belongs.{processor}
 use Rattle.reading.proofs.Limit.{trace_within, trace_past}
 use Rattle.reading.proofs.Mixed.{AllOn, Mixture, mixed_traces, mixed_size}
@@ -60,7 +60,7 @@ module _ (i : Merging) (j : Joins i) where
       (alone_along i.choice i.second choice j.both.reads_second) mixture
 
   module _ (m : ℕ) where
-    within : limit ≤ m → read_of choice m (merged_trace i) ≡ record { stop = End; entries = mixture.entries; state = mixture.state }
+    within : limit ≤ m → read_of choice m (merged_trace i) ≡ record { stop = Ok tt; entries = mixture.entries; state = mixture.state }
     within h = trace_within choice m (merged_trace i) mixture.reads (omega (arith, size, h))
 
     pub reads_whole : limit ≤ m → ReadsWhole i choice m
@@ -71,5 +71,5 @@ module _ (i : Merging) (j : Joins i) where
           passes = ap (λ (r : Reading). r.state.passed) (within h) ∙ mixture.together.passed;
         }
 
-    pub stops_full : m < limit → (n : ℕ) × ((read_of choice m (merged_trace i)).stop ≡ At Fault.TooMany (whole_line n))
+    pub stops_full : m < limit → (n : ℕ) × ((read_of choice m (merged_trace i)).stop ≡ refused_at Fault.TooMany (whole_line n))
     stops_full h = trace_past choice m (merged_trace i) mixture.reads (omega (arith, size, h))

@@ -1,11 +1,11 @@
 -- A merging comes to what its row of the table says, and every one is in a row or joins the two traces.
+use Rattle.std.specs.Prelude.{Option, Result, Some, None, Ok, Err}
 use Prim.Native.Nat.{ℕ, ◌+◌, ◌<◌}
 use native.Mathlib.Omega.{arith}
 use native.Mathlib.Decide.{dec_lt}
 use mathlib.Core.Path.{◌≡◌, refl}
 use mathlib.Core.Logic.{◌⊎◌, inl, inr}
 use mathlib.Core.Bool.{Bool, true, false}
-use mathlib.Core.Option.{Option, none, some}
 use mathlib.Core.List.{[]}
 use lib.ListN.{length}
 use Rattle.paper.specs.Columns.{nowhere}
@@ -13,12 +13,10 @@ use Rattle.paper.specs.Answer.{choice_of, heard}
 use Rattle.paper.specs.Merging.{stop_alone, share_one, Merging, unmerged, join}
 use Rattle.paper.specs.declared.Choice.{Choice}
 use Rattle.paper.specs.declared.Fault.{Fault}
-use Rattle.paper.specs.declared.Fault.TheVariants as Fault
 use Rattle.paper.specs.declared.Site.{Site}
-use Rattle.paper.specs.declared.Stop.{Stop}
-use Rattle.paper.specs.declared.Stop.TheVariants.{End, At}
 use Rattle.paper.specs.declared.Which.{Which}
 use Rattle.paper.specs.declared.Which.TheVariants.{Neither, First, Second}
+use Rattle.paper.specs.declared.Refusal.{Refusal}
 use Rattle.demands.specs.Steps.{Unheard, entries}
 use Rattle.demands.proofs.Tests.{untold, unchosen, neither}
 use Rattle.merges.specs.Parts.{alone, first, second, Both, Shared, Joins}
@@ -29,11 +27,11 @@ use Rattle.merges.proofs.Steps.{join_choice, join_first, join_second, join_share
 
 -- ---- 1, as a judging call has it
 
-choice_unheard : (n : ℕ) → ¬ (n ≡ 1) → ¬ (n ≡ 2) → choice_of n ≡ none
+choice_unheard : (n : ℕ) → ¬ (n ≡ 1) → ¬ (n ≡ 2) → choice_of n ≡ None
 unfolding alone heard
 choice_unheard n one two = unchosen (alone n []).asked (inl (one, two))
 
-unheard_choice : (n : ℕ) → choice_of n ≡ none → (¬ (n ≡ 1)) × (¬ (n ≡ 2))
+unheard_choice : (n : ℕ) → choice_of n ≡ None → (¬ (n ≡ 1)) × (¬ (n ≡ 2))
 unfolding alone heard
 unheard_choice n e = go (neither (alone n []).asked e)
   where
@@ -70,24 +68,25 @@ module _ (i : Merging) where
     on_shared true e = inr (Fault.SharedProcessor, Neither, nowhere, shared both ((shares_tell _ _).holds e))
     on_shared false e = on_room (untold (shares_tell _ _) e) (dec_lt _ _)
 
-  module _ (choice : Choice) (chosen : choice_of i.choice ≡ some choice) where
-    on_second : stop_alone choice i.first ≡ End → (x : Stop) → stop_alone choice i.second ≡ x → Answered
-    on_second e End e' =
+  module _ (choice : Choice) (chosen : choice_of i.choice ≡ Some choice) where
+    on_second : stop_alone choice i.first ≡ Ok tt → (x : Result Unit Refusal) → stop_alone choice i.second ≡ x → Answered
+    on_second e (Ok tt) e' =
         on_shared
         (record { choice = choice; reads_first = read_of i.choice i.first choice chosen e; reads_second = read_of i.choice i.second choice chosen e' })
         _ refl
-    on_second e (At fault s) e' =
-        let (of_trace, when) = row_of i.choice i.second choice chosen fault s e' in
-        inr (fault, Second, s, of_second choice (read_of i.choice i.first choice chosen e) of_trace when)
+    on_second e (Err refusal) e' =
+        let (of_trace, when) = row_of i.choice i.second choice chosen refusal.fault refusal.site e' in
+        inr (refusal.fault, Second, refusal.site, of_second choice (read_of i.choice i.first choice chosen e) of_trace when)
 
-    on_first_lem : (x : Stop) → stop_alone choice i.first ≡ x → Answered
-    on_first_lem End e = on_second e _ refl
-    on_first_lem (At fault s) e =
-        let (of_trace, when) = row_of i.choice i.first choice chosen fault s e in inr (fault, First, s, of_first of_trace when)
+    on_first_lem : (x : Result Unit Refusal) → stop_alone choice i.first ≡ x → Answered
+    on_first_lem (Ok tt) e = on_second e _ refl
+    on_first_lem (Err refusal) e =
+        let (of_trace, when) = row_of i.choice i.first choice chosen refusal.fault refusal.site e in
+        inr (refusal.fault, First, refusal.site, of_first of_trace when)
 
   on_choice_lem : (o : Option Choice) → choice_of i.choice ≡ o → Answered
-  on_choice_lem none e = let (one, two) = unheard_choice i.choice e in inr (Fault.BadChoice, Neither, nowhere, bad_choice one two)
-  on_choice_lem (some choice) e = on_first_lem choice e _ refl
+  on_choice_lem None e = let (one, two) = unheard_choice i.choice e in inr (Fault.BadChoice, Neither, nowhere, bad_choice one two)
+  on_choice_lem (Some choice) e = on_first_lem choice e _ refl
 
   pub answered : Answered
   answered = on_choice_lem _ refl

@@ -1,4 +1,5 @@
 -- The timestamp by which a line is merged is the time that its record has, and of any line that is not refused what its third field says.
+use Rattle.std.specs.Prelude.{Some}
 use Prim.Native.Nat.{ℕ}
 use mathlib.Core.Path.{◌≡◌, refl, ap}
 use mathlib.Core.List.{List}
@@ -6,22 +7,20 @@ use Rattle.paper.specs.Forms.{time_of}
 use Rattle.paper.specs.Line.{field, after, Begun, bad, six, head_of, begun, line_of}
 use Rattle.paper.specs.Merging.{stamp_of}
 use Rattle.paper.specs.declared.Choice.{Choice}
-use Rattle.paper.specs.declared.Field.TheVariants.{Good}
 use Rattle.paper.specs.declared.Line.TheVariants.{Listed}
 use Rattle.paper.specs.declared.Record.{Record}
-use Rattle.paper.specs.declared.Spot.TheVariants as Spot
 use Rattle.forms.proofs.Tests.{never}
 use Rattle.reading.proofs.Stamp.{timed_head, timed_line}
 use Rattle.merges.specs.Stamps.{RefusedLine, Stamped}
 
 module _ (choice : Choice) (l : List ℕ) where
   -- a line that does not begin well is refused
-  pub stamp_third : ¬ RefusedLine choice l → time_of (field (after (after l))) ≡ Good (stamp_of l)
+  pub stamp_third : ¬ RefusedLine choice l → time_of (field (after (after l))) ≡ Some (stamp_of l)
   unfolding line_of begun stamp_of
   stamp_third good = go (head_of l) refl
     where
-      go : (x : Begun) → head_of l ≡ x → time_of (field (after (after l))) ≡ Good (stamp_of l)
-      go (bad fault k) e = absurd (good (fault, Spot.Field k, ap (begun choice) e))
+      go : (x : Begun) → head_of l ≡ x → time_of (field (after (after l))) ≡ Some (stamp_of l)
+      go (bad fault k) e = absurd (good (fault, Some k, ap (begun choice) e))
       go (six h fields) e = rw (timed_head l h fields e).stamp
 
   -- the third field is the time of the record as well

@@ -1,18 +1,16 @@
 -- How far a merging comes: what `join` comes to where a check fails, and where all of them pass.
+use Rattle.std.specs.Prelude.{Some, None, Ok}
 use Prim.Native.Nat.{ℕ, ◌+◌, ◌≤◌, ◌<◌}
 use mathlib.Core.Path.{◌≡◌, ◌∙◌}
-use mathlib.Core.Option.{none, some}
 use mathlib.Core.List.{List}
 use lib.ListN.{length}
 use borrow.Author.Tests.{lt-ltb, le-ltb}
-use Rattle.paper.specs.Columns.{nowhere}
+use Rattle.paper.specs.Columns.{nowhere, refused_at}
 use Rattle.paper.specs.Answer.{choice_of}
 use Rattle.paper.specs.Merging.{merged_bytes, stop_alone, tally_of, on_readings, on_second_trace, on_first_trace, both_of, Merging, Mergence, unmerged, joined, on_merged, on_both, on_heard, join}
 use Rattle.paper.specs.declared.Choice.{Choice}
 use Rattle.paper.specs.declared.Fault.{Fault}
-use Rattle.paper.specs.declared.Fault.TheVariants as Fault
 use Rattle.paper.specs.declared.Site.{Site}
-use Rattle.paper.specs.declared.Stop.TheVariants.{End, At}
 use Rattle.paper.specs.declared.Which.TheVariants.{Neither, First, Second}
 use Rattle.demands.specs.Steps.{reading, entries}
 use Rattle.demands.proofs.Tests.{not_told}
@@ -22,26 +20,26 @@ use Rattle.merges.proofs.Both.{both_chosen, both_length}
 use Rattle.merges.proofs.Shares.{shares_tell}
 
 module _ (i : Merging) where
-  pub join_choice : choice_of i.choice ≡ none → join i ≡ unmerged i Fault.BadChoice Neither nowhere
+  pub join_choice : choice_of i.choice ≡ None → join i ≡ unmerged i Fault.BadChoice Neither nowhere
   unfolding join on_heard
   join_choice e = rw e
 
   -- ---- both traces by themselves
 
-  module _ (choice : Choice) (chosen : choice_of i.choice ≡ some choice) where
+  module _ (choice : Choice) (chosen : choice_of i.choice ≡ Some choice) where
     join_chosen : join i ≡ on_both i (on_first_trace choice i.first i.second (stop_alone choice i.first))
     unfolding join on_heard both_of
     join_chosen = rw chosen
 
-    pub join_first : (fault : Fault) (s : Site) → stop_alone choice i.first ≡ At fault s → join i ≡ unmerged i fault First s
+    pub join_first : (fault : Fault) (s : Site) → stop_alone choice i.first ≡ refused_at fault s → join i ≡ unmerged i fault First s
     unfolding on_both on_first_trace
     join_first fault s e = join_chosen ∙ rw e
 
-    join_read : stop_alone choice i.first ≡ End → join i ≡ on_both i (on_second_trace choice i.first i.second (stop_alone choice i.second))
+    join_read : stop_alone choice i.first ≡ Ok tt → join i ≡ on_both i (on_second_trace choice i.first i.second (stop_alone choice i.second))
     unfolding on_first_trace
     join_read e = join_chosen ∙ rw e
 
-    pub join_second : stop_alone choice i.first ≡ End → (fault : Fault) (s : Site) → stop_alone choice i.second ≡ At fault s
+    pub join_second : stop_alone choice i.first ≡ Ok tt → (fault : Fault) (s : Site) → stop_alone choice i.second ≡ refused_at fault s
         → join i ≡ unmerged i fault Second s
     unfolding on_both on_second_trace
     join_second e fault s e' = join_read e ∙ rw e'

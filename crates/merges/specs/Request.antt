@@ -1,6 +1,5 @@
 -- The sixth change request of the merging call, for any two traces, any choice and any room.
-use Rattle.std.specs.Prelude.{ℕ, ◌≤◌, ◌<◌, ◌≡◌, ◌⊎◌, ◌↔◌, List}
-use Rattle.std.proofs.Math.Option.{some}
+use Rattle.std.specs.Prelude.{ℕ, ◌≤◌, ◌<◌, ◌≡◌, ◌⊎◌, ◌↔◌, List, Some}
 use Rattle.paper.specs.Numbers.{number_of}
 use Rattle.paper.specs.Answer.{choice_of}
 use Rattle.paper.specs.Merging.{Merging, MergeOutcome, which_of, merge}
@@ -26,6 +25,6 @@ pub record Merges : Type 0 where
   pub kept : (i : Merging) → ¬ (number i ≡ 0) → (written i ≡ 0) × ((merge i).room ≡ i.room)
   -- "the line with the smaller timestamp": what lines are merged by is the timestamp that they have, listed and passed over alike
   pub stamps : (choice : Choice) (l : List ℕ) → Stamped choice l
-  pub merged : (i : Merging) (choice : Choice) → choice_of i.choice ≡ some choice → number i ≡ 0 → MergedTrace i choice
+  pub merged : (i : Merging) (choice : Choice) → choice_of i.choice ≡ Some choice → number i ≡ 0 → MergedTrace i choice
   -- there is one answer only
   pub one_outcome : (i : Merging) (a b : MergeOutcome) → a ≡ merge i → b ≡ merge i → a ≡ b

@@ -6,7 +6,6 @@ use Rattle.paper.specs.Columns.{nowhere}
 use Rattle.paper.specs.Merging.{Merging}
 use Rattle.paper.specs.declared.Choice.{Choice}
 use Rattle.paper.specs.declared.Fault.{Fault}
-use Rattle.paper.specs.declared.Fault.TheVariants as Fault
 use Rattle.paper.specs.declared.Site.{Site}
 use Rattle.paper.specs.declared.Which.{Which}
 use Rattle.paper.specs.declared.Which.TheVariants.{Neither, First, Second}

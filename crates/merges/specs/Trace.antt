@@ -1,13 +1,11 @@
 -- What an accepted merging leaves in the room, and what reading it comes to.
-use Rattle.std.specs.Prelude.{ℕ, ◌+◌, ◌≤◌, ◌<◌, ◌≡◌, ◌↔◌, [], length, drop}
+use Rattle.std.specs.Prelude.{ℕ, ◌+◌, ◌≤◌, ◌<◌, ◌≡◌, ◌↔◌, [], length, drop, Ok}
 use Rattle.paper.specs.Reading.{lines_of, read_of}
 use Rattle.paper.specs.Answer.{Inputs, given, most, longest}
 use Rattle.paper.specs.Merging.{Merging, merged_bytes, join, merge}
 use Rattle.paper.specs.declared.Choice.{Choice}
-use Rattle.paper.specs.declared.Stop.TheVariants.{End}
-use Rattle.paper.specs.declared.Joined.{Joined}
-use Rattle.paper.specs.declared.Joint.TheVariants.{Of}
 use Rattle.paper.specs.declared.Tally.{Tally}
+use Rattle.paper.specs.declared.Joined.{Joined}
 use Rattle.reading.specs.Joined.{line_count}
 use Rattle.reading.specs.Mixed.{Mixed}
 use Rattle.demands.specs.Parts as judged
@@ -46,7 +44,7 @@ pub record ToldOf (i : Merging) (choice : Choice) (all : Joined) : Type 0 where
 
 -- by themselves, with room for as many records as there are
 pub record ReadsWhole (i : Merging) (choice : Choice) (limit : ℕ) : Type 0 where
-  pub ends : (read_of choice limit (merged_trace i)).stop ≡ End
+  pub ends : (read_of choice limit (merged_trace i)).stop ≡ Ok tt
   pub lists : length (read_of choice limit (merged_trace i)).entries ≡ listed_of_both i choice
   pub passes : (read_of choice limit (merged_trace i)).state.passed ≡ passed_of_both i choice
 
@@ -67,7 +65,7 @@ pub record MergedTrace (i : Merging) (choice : Choice) : Type 0 where
   pub places : length (merge i).room ≡ length i.room
   pub after : drop (written i) (merge i).room ≡ drop (written i) i.room
   -- what is told beside the answer
-  pub told : (all : Joined) → (join i).joint ≡ Of all → ToldOf i choice all
+  pub told : (all : Joined) → (join i).joint ≡ Ok all → ToldOf i choice all
   -- merging with an empty trace gives the other's bytes
   pub first_empty : i.first ≡ [] → merged_trace i ≡ i.second
   pub second_empty : i.second ≡ [] → merged_trace i ≡ i.first

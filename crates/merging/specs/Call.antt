@@ -1,17 +1,18 @@
 -- The calls: what they are given, and what they leave.
-use Rattle.std.specs.Prelude.{ℕ, ◌≤◌, List, length}
+use Rattle.std.specs.Prelude.{ℕ, ◌≤◌, List, length, Result}
 use Rattle.paper.specs.Answer.{longest}
 use Rattle.paper.specs.Reading.{lines_of}
 use Rattle.paper.specs.Merging.{Merging, Mergence, MergeOutcome, lines_in}
-use Rattle.paper.specs.declared.Joint.{Joint}
 use Rattle.paper.specs.declared.Merged.{Merged}
 use Rattle.paper.specs.declared.Tally.{Tally}
 use Rattle.reading.specs.Joined.{AllEnded}
+use Rattle.paper.specs.declared.Unmerged.{Unmerged}
+use Rattle.paper.specs.declared.Joined.{Joined}
 
 abbrev pub merging : (first second : List ℕ) → ℕ → List ℕ → Merging
 merging first second choice room = record { first = first; second = second; choice = choice; room = room }
 
-abbrev pub mergence : Joint → List ℕ → Mergence
+abbrev pub mergence : Result Joined Unmerged → List ℕ → Mergence
 mergence joint room = record { joint = joint; room = room }
 
 abbrev pub outcome : Merged → List ℕ → MergeOutcome

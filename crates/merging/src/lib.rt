@@ -10,21 +10,30 @@ ghost use Rattle.paper.specs.Merging as paper;
 ghost use Rattle.paper.specs.Merging.{merged_bytes, on_merged, which_of, merged_of};
 ghost use Rattle.merging.specs.Call.{merging, mergence, outcome, Counted};
 
-use clearance::Heard;
-use paper::{Both, Fault, Joined, Joint, Merged, Tally, Which};
+use paper::{Fault, Joined, Merged, Tally, Unmerged, Which};
 
 // "then 16", of two traces that may be merged.
-fn put<'a>(first: &'a [u8], second: &'a [u8], a: Tally, b: Tally, room: &mut [u8]) -> Joint
+fn put<'a>(
+    first: &'a [u8],
+    second: &'a [u8],
+    a: Tally,
+    b: Tally,
+    room: &mut [u8],
+) -> Result<Joined, Unmerged>
     requires { Counted first.now a × Counted second.now b }
     ensures { mergence result room.new ≡ on_merged (merging first.now second.now 0 room.old) a b (merged_bytes first.now second.now) }
 {
     let written = first.len() + second.len();
     if room.len() < written {
-        return Joint::Refused(Fault::NoRoom, Which::Neither, answer::nowhere());
+        return Err(Unmerged {
+            fault: Fault::NoRoom,
+            which: Which::Neither,
+            site: answer::nowhere(),
+        });
     }
     weave::weave(first, second, room);
     let lines = a.listed + a.passed;
-    Joint::Of(Joined {
+    Ok(Joined {
         lines: lines + (b.listed + b.passed),
         written: written as u64,
         first: a,
@@ -33,16 +42,22 @@ fn put<'a>(first: &'a [u8], second: &'a [u8], a: Tally, b: Tally, room: &mut [u8
 }
 
 // What the merging comes to, with what was counted of either trace.
-pub fn join<'a>(first: &'a [u8], second: &'a [u8], choice: u32, room: &mut [u8]) -> Joint
+pub fn join<'a>(
+    first: &'a [u8],
+    second: &'a [u8],
+    choice: u32,
+    room: &mut [u8],
+) -> Result<Joined, Unmerged>
     ensures { mergence result room.new ≡ paper.join (merging first.now second.now choice room.old) }
 {
-    match clearance::choice_of(choice) {
-        Heard::Nothing => { Joint::Refused(Fault::BadChoice, Which::Neither, answer::nowhere()) }
-        Heard::Of(choice) => match both::read(choice, first, second) {
-            Both::Unfit(fault, which, site) => Joint::Refused(fault, which, site),
-            Both::Apart(a, b) => put(first, second, a, b, room),
-        },
-    }
+    let unheard = Unmerged {
+        fault: Fault::BadChoice,
+        which: Which::Neither,
+        site: answer::nowhere(),
+    };
+    let choice = clearance::choice_of(choice).ok_or(unheard)?;
+    let (a, b) = both::read(choice, first, second)?;
+    put(first, second, a, b, room)
 }
 
 fn which_of(which: Which) -> u64
@@ -56,18 +71,18 @@ fn which_of(which: Which) -> u64
 }
 
 // "each says which trace it means, 0 for neither"
-pub fn told(joint: Joint) -> Merged
+pub fn told(joint: Result<Joined, Unmerged>) -> Merged
     ensures { result ≡ merged_of joint }
 {
     match joint {
-        Joint::Refused(fault, which, site) => Merged {
+        Err(Unmerged { fault, which, site }) => Merged {
             number: answer::number(fault),
             which: which_of(which),
             line: site.line as u64,
             column: site.column as u64,
             written: 0,
         },
-        Joint::Of(all) => Merged {
+        Ok(all) => Merged {
             number: 0,
             which: 0,
             line: 0,

@@ -19,21 +19,18 @@ fn step<'a>(first: &'a [u8], second: &'a [u8], a: Head, b: Head) -> &'a [u8]
     requires { Within first.now a × Within second.now b }
     ensures { result.now ≡ chosen first.now second.now a b }
 {
-    let from = a.from;
-    let to = a.to;
-    let start = b.from;
-    let end = b.to;
     if heads::first_goes(a, b) {
-        return &first[from..to];
+        &first[a.from..a.to]
+    } else {
+        &second[b.from..b.to]
     }
-    &second[start..end]
 }
 
 fn put(room: &mut [u8], at: usize, word: &[u8])
     requires { at + length word.now ≤ length room.old }
     ensures { room.new ≡ sets room.old at word.now }
 {
-    octets::copy(word, &mut room[at..]);
+    room[at..at + word.len()].copy_from_slice(word);
 }
 
 // The chosen line to its place: behind as many bytes as both traces have before their heads.
@@ -50,14 +47,15 @@ fn advanced(first: &[u8], second: &[u8], a: Head, b: Head) -> Way
     ensures { Advanced first.now second.now a b result.a result.b }
 {
     if heads::first_goes(a, b) {
-        return Way {
+        Way {
             a: heads::head_at(first, a.to),
-            b: b,
-        };
-    }
-    Way {
-        a: a,
-        b: heads::head_at(second, b.to),
+            b,
+        }
+    } else {
+        Way {
+            a,
+            b: heads::head_at(second, b.to),
+        }
     }
 }
 

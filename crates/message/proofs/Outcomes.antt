@@ -1,4 +1,5 @@
 -- What the call comes to, from what its two halves do; and that it comes to one thing only.
+use Rattle.std.specs.Prelude.{Result, Ok, Err}
 use Prim.Native.Nat.{ℕ, ◌≤◌, ◌<◌}
 use mathlib.Core.Path.{◌≡◌, sym, ◌∙◌}
 use mathlib.Core.Bool.{true, false}
@@ -6,26 +7,22 @@ use mathlib.Core.List.{List}
 use borrow.Author.Tests.{le-leb, lt-leb}
 use lib.ListN.{length}
 use Rattle.paper.specs.Matching.{matched_of, matched_count, unreceived_count}
-use Rattle.paper.specs.declared.Fault.{Fault}
 use Rattle.paper.specs.declared.Entry.{Entry}
-use Rattle.paper.specs.declared.Site.{Site}
-use Rattle.paper.specs.declared.Stop.{Stop}
-use Rattle.paper.specs.declared.Stop.TheVariants.{End, At}
 use Rattle.store.specs.Layout.{capacity, entries_in}
-use Rattle.message.specs.declared.Matching.{Matching}
-use Rattle.message.specs.declared.Matching.TheVariants.{Matched, Refused, Misfit}
 use Rattle.chains.specs.Places.{places_of, Places, places_fit, found}
 use Rattle.chains.proofs.Outcomes.{places_size, places_self, places_found, links_cleared}
 use Rattle.message.specs.Outcome.{Outcome, answer_of, fitting, matching}
+use Rattle.paper.specs.declared.Refusal.{Refusal}
+use Rattle.message.specs.declared.Unmatched.{Unmatched}
 
 -- ---- the answer
 
-module _ (es : List Entry) {s : Stop} (e : s ≡ matched_of es) where
-  pub refuses : {fault : Fault} {site : Site} → s ≡ At fault site → Refused fault site ≡ answer_of es
+module _ (es : List Entry) {s : Result Unit Refusal} (e : s ≡ matched_of es) where
+  pub refuses : {refusal : Refusal} → s ≡ Err refusal → Err (Unmatched.Refused refusal) ≡ answer_of es
   unfolding answer_of
   refuses f = rw (← e, f)
 
-  pub matches : {r : Matching} → s ≡ End → r ≡ Matched (matched_count es) (unreceived_count es) → r ≡ answer_of es
+  pub matches : {counts : ℕ × ℕ} → s ≡ Ok tt → counts ≡ (matched_count es, unreceived_count es) → Ok counts ≡ answer_of es
   unfolding answer_of
   matches f g = rw (← e, f, g)
 
@@ -33,12 +30,12 @@ module _ (es : List Entry) {s : Stop} (e : s ≡ matched_of es) where
 
 module _ (store : List ℕ) (sends link : List ℕ) where
   pub misfit_places : places_fit sends link ≡ false
-      → ◌≡◌ {A = Outcome} (record { answer = Misfit; sends = sends; link = link }) (matching store sends link)
+      → ◌≡◌ {A = Outcome} (record { answer = Err Unmatched.Misfit; sends = sends; link = link }) (matching store sends link)
   unfolding matching fitting
   misfit_places h = rw h
 
   pub misfit_store : places_fit sends link ≡ true → capacity store < length sends
-      → ◌≡◌ {A = Outcome} (record { answer = Misfit; sends = sends; link = link }) (matching store sends link)
+      → ◌≡◌ {A = Outcome} (record { answer = Err Unmatched.Misfit; sends = sends; link = link }) (matching store sends link)
   unfolding matching fitting
   misfit_store h g = rw (h, lt-leb (length sends) (capacity store) g)
 
@@ -47,7 +44,7 @@ module _ (store : List ℕ) (sends link : List ℕ) where
     pub found_self : p.sends ≡ places_of (entries_in store (length p.sends))
     found_self = places_self store (length sends) p.sends (places_found store sends link h p e)
 
-    pub fits : length sends ≤ capacity store → {r : Matching} → r ≡ answer_of (entries_in store (length p.sends))
+    pub fits : length sends ≤ capacity store → {r : Result (ℕ × ℕ) Unmatched} → r ≡ answer_of (entries_in store (length p.sends))
         → ◌≡◌ {A = Outcome} (record { answer = r; sends = p.sends; link = p.link }) (matching store sends link)
     unfolding matching fitting
     fits g a =

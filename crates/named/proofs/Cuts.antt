@@ -5,7 +5,7 @@ use mathlib.Core.Bool.{Bool, true, false, cond}
 use mathlib.Core.List.{List, [], ◌∷◌}
 use native.Mathlib.Omega.{arith}
 use lib.ListN.{length, take, drop, drop_of_length-le}
-use lib.Seq.{take-length, take-nil, drop-nil, drop-length, drop-drop}
+use lib.Seq.{take-nil, drop-nil, drop-length, drop-drop}
 use lib.Dec.{eqb}
 use Rattle.octets.specs.Octets.{index_of, index_after}
 use Rattle.named.specs.Words.{before, words_of, up_to, behind}

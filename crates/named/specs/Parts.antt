@@ -1,11 +1,7 @@
 -- A part of a line, and what the parts of the code leave.
 use Rattle.std.specs.Prelude.{ℕ, ◌+◌, ◌-◌, ◌≤◌, min, ◌≡◌, List, length, take, drop}
-use Rattle.std.proofs.Math.Option.{Option, none, some}
 use Rattle.named.specs.Words.{up_to, behind}
 use Rattle.named.specs.declared.Span.{Span}
-use Rattle.named.specs.declared.Name.{Name}
-use Rattle.named.specs.declared.names.Found.{Found}
-use Rattle.named.specs.declared.names.Found.TheVariants.{Is, Unknown}
 
 -- ---- a span is the part of the line that it cuts out
 
@@ -25,9 +21,3 @@ pub record WordAt (separator : ℕ) (line : List ℕ) (at : ℕ) (span : Span) :
   pub starts : span.from ≡ min at (length line)
   pub is : cut line span ≡ up_to separator (drop at line)
   pub rest : drop (span.to + 1) line ≡ behind separator (drop at line)
-
--- ---- a name
-
-unfoldable pub found_in : Found → Option Name
-found_in (Is name) = some name
-found_in Unknown = none

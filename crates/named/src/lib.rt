@@ -9,7 +9,7 @@ mod values;
 mod words;
 
 pub use levels::{Wanted, levels_of};
-pub use names::{Found, name_of};
+pub use names::name_of;
 pub use share::share_of;
 pub use switch::switch_of;
 pub use values::{choice_of, is_forgotten, is_good};

@@ -2,17 +2,15 @@
 ghost use Rattle.std.specs.Prelude.{◌≡◌};
 ghost use Rattle.named.specs.Values.{share_of};
 
-use signed::Natural;
-
-// Every number above 1,000 is the same one, so that the largest of them is refused as the least is and none wraps to a good share.
+// Every number above 1,000 is the same one, so that the largest of them is refused as the least is and none wraps to a good share. A
+// number and no Option, for what is no share too: it is the C interface's number that this one becomes.
+#[tactic(auto, unfolding(crate::specs::Values::share_of, crate::specs::Values::share_by))]
 pub fn share_of(value: &[u8]) -> u32
     ensures { result ≡ share_of value.now }
 {
-    let Natural::Of(share) = numeral::read_natural(value) else {
-        return 1002;
-    };
-    if 1000 < share {
-        return 1001;
+    match numeral::read_natural(value) {
+        None => 1002,
+        Some(share) if 1000 < share => 1001,
+        Some(share) => share as u32,
     }
-    share as u32
 }

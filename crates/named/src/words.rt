@@ -12,5 +12,5 @@ pub fn word_at(line: &[u8], separator: u8, at: usize) -> Span
         return Span { from: end, to: end };
     }
     let to = octets::find(line, at, separator);
-    Span { from: at, to: to }
+    Span { from: at, to }
 }

@@ -1,5 +1,5 @@
 -- The place of the first b, a byte at a time.
-use Rattle.std.proofs.Common.{max, ℕ, suc, ◌+◌, ◌≡◌, ◌<◌, ◌≤◌, List, [], ◌∷◌, Bool, true, false, length, drop, get_or, refl, sym, ap, ◌∙◌, arith, eqb, eq-eqb, ne_eqb, drop-cons, drop_of_length-le, add-one, add-zero}
+use Rattle.std.proofs.Common.{max, ℕ, ◌+◌, ◌≡◌, ◌<◌, ◌≤◌, List, [], ◌∷◌, Bool, true, false, length, drop, get_or, arith, eqb, eq-eqb, ne_eqb, drop-cons, drop_of_length-le, add-one, add-zero}
 use Rattle.octets.specs.Octets.{index_of, index_after}
 
 -- it is within the bytes, or their end

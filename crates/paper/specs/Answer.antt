@@ -1,7 +1,6 @@
 -- Document 01, "Numbers a caller gets back", in its order: 1 to 4, the lines, 17 of the first change request, 19 of the eighth, 13 and 14, 15,
 -- which is as far as a call reaches; then 16 and acceptance; and what the lent times and the room hold afterwards.
-use Rattle.std.specs.Prelude.{ℕ, zero, suc, List, [], ◌++◌, Bool, true, false, cond, ◌&&◌, not, length, drop, ℤ, ltb, leb, eqb}
-use Rattle.std.proofs.Math.Option.{Option, none, some}
+use Rattle.std.specs.Prelude.{ℕ, zero, suc, List, [], ◌++◌, Bool, true, false, cond, ◌&&◌, not, length, drop, ℤ, ltb, leb, eqb, Option, Result, Some, None, Ok, Err}
 use Rattle.paper.specs.Tests.{all_up_to}
 use Rattle.paper.specs.Numbers.{number_of}
 use Rattle.paper.specs.Columns.{nowhere}
@@ -15,11 +14,9 @@ use Rattle.paper.specs.declared.Asked.{Asked}
 use Rattle.paper.specs.declared.Choice.{Choice}
 use Rattle.paper.specs.declared.Choice.TheVariants.{Strict, Lenient}
 use Rattle.paper.specs.declared.Fault.{Fault}
-use Rattle.paper.specs.declared.Fault.TheVariants as Fault
 use Rattle.paper.specs.declared.Site.{Site}
-use Rattle.paper.specs.declared.Stop.{Stop}
-use Rattle.paper.specs.declared.Stop.TheVariants.{End, At}
 use Rattle.paper.specs.declared.Answer.{Answer}
+use Rattle.paper.specs.declared.Refusal.{Refusal}
 
 -- What a call is given to judge: of the lent times only how many places they are.
 pub record Given : Type 0 where
@@ -42,12 +39,12 @@ longest = 65536
 
 -- "1 (strict)", "2 (lenient)"
 unfoldable pub choice_of : ℕ → Option Choice
-choice_of n = cond (eqb n 1) (some Strict) (cond (eqb n 2) (some Lenient) none)
+choice_of n = cond (eqb n 1) (Some Strict) (cond (eqb n 2) (Some Lenient) None)
 
 -- what the caller names, none for refusal 1: of the levels "0 for off .. or 1 for on; any other is refusal 1", and of the statistics "0 for off
 -- or 1 for on, otherwise refusal 1"
 unfoldable pub heard : Asked → Option Choice
-heard a = cond (leb a.levels 1 && leb a.statistics 1) (choice_of a.choice) none
+heard a = cond (leb a.levels 1 && leb a.statistics 1) (choice_of a.choice) None
 
 -- "exactly 4,096 unsigned whole numbers", "exactly 2,048 signed 64-bit places", and of the share "above 1,000 is refusal 2": false for that
 unfoldable pub right_sizes : Given → Bool
@@ -76,29 +73,29 @@ on_settled choice r impossible = stopped Fault.NoTimes nowhere
 on_settled choice r (settled rounds times) = found (record { choice = choice; reading = r; rounds = rounds; times = times })
 
 -- "then the first receive in file order that calls for 13 or 14"
-unfoldable pub on_matched : Given → Choice → Reading → Stop → Reached
-on_matched g choice r (At fault site) = stopped fault site
-on_matched g choice r End = on_settled choice r (settle (waits_of g.asked.share g.latencies r.entries))
+unfoldable pub on_matched : Given → Choice → Reading → Result Unit Refusal → Reached
+on_matched g choice r (Err refusal) = stopped refusal.fault refusal.site
+on_matched g choice r (Ok tt) = on_settled choice r (settle (waits_of g.asked.share g.latencies r.entries))
 
 -- "after the line checks and 17, before 13", 19
-unfoldable pub on_statistics : Given → Choice → Reading → Stop → Reached
-on_statistics g choice r (At fault site) = stopped fault site
-on_statistics g choice r End = on_matched g choice r (matched_of r.entries)
+unfoldable pub on_statistics : Given → Choice → Reading → Result Unit Refusal → Reached
+on_statistics g choice r (Err refusal) = stopped refusal.fault refusal.site
+on_statistics g choice r (Ok tt) = on_matched g choice r (matched_of r.entries)
 
 -- "After the lines are read, and before 13, refuse with 17"
-unfoldable pub on_levels : Given → Choice → Reading → Stop → Reached
-on_levels g choice r (At fault site) = stopped fault site
-on_levels g choice r End = on_statistics g choice r (statistics_of g.asked g.trace r.entries)
+unfoldable pub on_levels : Given → Choice → Reading → Result Unit Refusal → Reached
+on_levels g choice r (Err refusal) = stopped refusal.fault refusal.site
+on_levels g choice r (Ok tt) = on_statistics g choice r (statistics_of g.asked g.trace r.entries)
 
 -- "then line by line, the first bad line deciding"
-unfoldable pub on_read : Given → Choice → Reading → Stop → Reached
-on_read g choice r (At fault site) = stopped fault site
-on_read g choice r End = on_levels g choice r (levels_of g.asked r.entries)
+unfoldable pub on_read : Given → Choice → Reading → Result Unit Refusal → Reached
+on_read g choice r (Err refusal) = stopped refusal.fault refusal.site
+on_read g choice r (Ok tt) = on_levels g choice r (levels_of g.asked r.entries)
 
 -- "1 to 4"
 unfoldable pub on_choice : Given → Option Choice → Reached
-on_choice g none = stopped Fault.BadChoice nowhere
-on_choice g (some choice) =
+on_choice g None = stopped Fault.BadChoice nowhere
+on_choice g (Some choice) =
     let reading = read_of choice (most g) g.trace in
     let read = on_read g choice reading reading.stop in
     cond (right_sizes g)

@@ -1,7 +1,6 @@
 -- Document 01, "Matching and the clock condition", its second half: sound times, the rounds, and the answer that they come to.
 -- Times are signed microseconds.
-use Rattle.std.specs.Prelude.{ℕ, zero, suc, ◌≤◌, ◌<◌, max, ◌≡◌, List, [], ◌∷◌, Bool, true, false, cond, get_or, ℤ, pos, ◌+ℤ◌, ◌≤ℤ◌}
-use Rattle.std.proofs.Math.Option.{Option, none, some}
+use Rattle.std.specs.Prelude.{ℕ, zero, suc, ◌<◌, max, ◌≡◌, List, [], ◌∷◌, Bool, true, false, cond, get_or, ℤ, pos, ◌+ℤ◌, ◌≤ℤ◌, Option, Some, None}
 use Rattle.std.specs.Int.Signed.{le_z, lt_z}
 
 -- the largest time that the format holds
@@ -25,8 +24,8 @@ pub record Waits : Type 0 where
 pub record Sound (w : Waits) (x : ℕ → ℤ) : Type 0 where
   pub above : (i : ℕ) → i < w.size → w.original i ≤ℤ x i
   pub within : (i : ℕ) → i < w.size → x i ≤ℤ limit
-  pub order : (i j : ℕ) → i < w.size → w.before i ≡ some j → (x j +ℤ pos (w.gap i)) ≤ℤ x i
-  pub clock : (i j : ℕ) → i < w.size → w.send i ≡ some j → (x j +ℤ pos (w.latency i)) ≤ℤ x i
+  pub order : (i j : ℕ) → i < w.size → w.before i ≡ Some j → (x j +ℤ pos (w.gap i)) ≤ℤ x i
+  pub clock : (i j : ℕ) → i < w.size → w.send i ≡ Some j → (x j +ℤ pos (w.latency i)) ≤ℤ x i
 
 -- "The answer is the least sound set."
 pub record Least (w : Waits) (x : ℕ → ℤ) : Type 0 where
@@ -40,8 +39,8 @@ later a b = cond (lt_z a b) b a
 
 -- a, or the time of the record waited for plus the weight of the wait, where there is one and that is later
 abbrev pub waited : (ℕ → ℤ) → Option ℕ → ℕ → ℤ → ℤ
-waited x none weight a = a
-waited x (some j) weight a = later a (x j +ℤ pos weight)
+waited x None weight a = a
+waited x (Some j) weight a = later a (x j +ℤ pos weight)
 
 -- "Each next round gives every record the largest of its original, its predecessor's time on the same processor, and, for a
 -- receive, its send's time plus latency, both times taken from the round before.": the predecessor's time plus the gap

@@ -1,10 +1,10 @@
 -- The fifth change request: where a call is refused. "Refusals 5 to 10 carry that column, counted from 1. .. Other refusals carry 0."
-use Rattle.std.specs.Prelude.{ℕ, zero, suc, ◌+◌, List, cond, length}
+use Rattle.std.specs.Prelude.{ℕ, zero, suc, ◌+◌, List, cond, length, Option, Some, None, Result, Err}
 use Rattle.octets.specs.Octets.{index_of}
 use Rattle.paper.specs.Line.{after, goes_on}
+use Rattle.paper.specs.declared.Fault.{Fault}
 use Rattle.paper.specs.declared.Site.{Site}
-use Rattle.paper.specs.declared.Spot.{Spot}
-use Rattle.paper.specs.declared.Spot.TheVariants.{Field, Whole}
+use Rattle.paper.specs.declared.Refusal.{Refusal}
 
 -- "Where a field or LF is missing, the column is one past the line's last byte, LF not counted."
 abbrev pub past_end : List ℕ → ℕ
@@ -16,9 +16,9 @@ column_of zero l = 1
 column_of (suc k) l = cond (goes_on l) (suc (index_of 32 l) + column_of k (after l)) (past_end l)
 
 -- of what decides in a line that is refused, 0 where that is no field
-unfoldable pub column_in : List ℕ → Spot → ℕ
-column_in l (Field k) = column_of k l
-column_in l Whole = 0
+unfoldable pub column_in : List ℕ → Option ℕ → ℕ
+column_in l (Some k) = column_of k l
+column_in l None = 0
 
 -- ---- sites
 
@@ -32,3 +32,9 @@ whole_line n = in_line n 0
 -- no line at all
 abbrev pub nowhere : Site
 nowhere = whole_line 0
+
+-- ---- refusals
+
+-- by a fault, at a site
+abbrev pub refused_at : Fault → Site → Result Unit Refusal
+refused_at fault site = Err (record { fault = fault; site = site })

@@ -7,7 +7,6 @@ use Rattle.paper.specs.Columns.{nowhere}
 use Rattle.paper.specs.Answer.{Given, Found, Reached, stopped, found, reach}
 use Rattle.paper.specs.declared.Asked.{Asked}
 use Rattle.paper.specs.declared.Fault.{Fault}
-use Rattle.paper.specs.declared.Fault.TheVariants as Fault
 use Rattle.paper.specs.declared.Site.{Site}
 use Rattle.paper.specs.declared.Filled.{Filled}
 

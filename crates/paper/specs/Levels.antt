@@ -1,9 +1,8 @@
 -- The first change request, "Say which flags the collector really had": the tracing levels that the caller expects, and those that the
 -- marks of each processor tell.
-use Rattle.std.specs.Prelude.{ℕ, zero, suc, Bool, true, false, cond, ◌&&◌, List, length, negsuc, eqb}
-use Rattle.std.proofs.Math.Option.{Option, none, some, map}
+use Rattle.std.specs.Prelude.{ℕ, zero, suc, Bool, true, false, cond, ◌&&◌, List, length, negsuc, eqb, Option, Result, Some, None, Ok, option_map}
 use Rattle.paper.specs.Tests.{eq_z}
-use Rattle.paper.specs.Columns.{whole_line}
+use Rattle.paper.specs.Columns.{whole_line, refused_at}
 use Rattle.paper.specs.Matching.{entry_at, last_of, is_on, last_on}
 use Rattle.paper.specs.declared.Asked.{Asked}
 use Rattle.paper.specs.declared.Data.{Data}
@@ -11,8 +10,7 @@ use Rattle.paper.specs.declared.Data.TheVariants.{Three, Others}
 use Rattle.paper.specs.declared.Entry.{Entry}
 use Rattle.paper.specs.declared.Fault.TheVariants as Fault
 use Rattle.paper.specs.declared.Record.{Record}
-use Rattle.paper.specs.declared.Stop.{Stop}
-use Rattle.paper.specs.declared.Stop.TheVariants.{End, At}
+use Rattle.paper.specs.declared.Refusal.{Refusal}
 
 -- ---- a mark
 
@@ -41,26 +39,26 @@ expected a Others = false
 
 -- whether there is a last mark, and it has the expected three
 unfoldable pub agrees : Asked → List Entry → Option ℕ → Bool
-agrees a es none = false
-agrees a es (some k) = expected a (entry_at es k).body.values
+agrees a es None = false
+agrees a es (Some k) = expected a (entry_at es k).body.values
 
 -- "if a processor with listed records has no such mark, or its last one differs from the expected three", and then the line, which "is
 -- that of its last listed record"; none where there is no such record, or the mark agrees
 unfoldable pub off_at : Asked → List Entry → ℕ → Option ℕ
 off_at a es processor =
-    cond (agrees a es (last_mark es processor (length es))) none (map (λ k. (entry_at es k).line) (last_on es processor (length es)))
+    cond (agrees a es (last_mark es processor (length es))) None (option_map (λ k. (entry_at es k).line) (last_on es processor (length es)))
 
 -- ---- all processors
 
-abbrev pub on_off : Option ℕ → Stop → Stop
-on_off none more = more
-on_off (some line) more = At Fault.OtherLevels (whole_line line)
+abbrev pub on_off : Option ℕ → Result Unit Refusal → Result Unit Refusal
+on_off None more = more
+on_off (Some line) more = refused_at Fault.OtherLevels (whole_line line)
 
 -- "The smallest such processor decides", of n processors from this one on
-unfoldable pub levels_from : Asked → List Entry → ℕ → ℕ → Stop
-levels_from a es processor zero = End
+unfoldable pub levels_from : Asked → List Entry → ℕ → ℕ → Result Unit Refusal
+levels_from a es processor zero = Ok tt
 levels_from a es processor (suc n) = on_off (off_at a es processor) (levels_from a es (suc processor) n)
 
 -- "A fourth number says 0 for off, as for document 01's samples, or 1 for on"
-unfoldable pub levels_of : Asked → List Entry → Stop
-levels_of a es = cond (eqb a.levels 1) (levels_from a es 0 64) End
+unfoldable pub levels_of : Asked → List Entry → Result Unit Refusal
+levels_of a es = cond (eqb a.levels 1) (levels_from a es 0 64) (Ok tt)

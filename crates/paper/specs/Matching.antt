@@ -1,18 +1,15 @@
 -- Document 01, "Matching and the clock condition", its first half: each receive and its send.
-use Rattle.std.specs.Prelude.{ℕ, zero, suc, ◌+◌, ◌-◌, ◌*◌, List, [], ◌∷◌, Bool, true, false, cond, ◌&&◌, length, take, get_or, ℤ, pos, eqb, leb}
-use Rattle.std.proofs.Math.Option.{Option, none, some, map}
+use Rattle.std.specs.Prelude.{ℕ, zero, suc, ◌+◌, ◌-◌, ◌*◌, List, [], ◌∷◌, Bool, true, false, cond, ◌&&◌, length, take, get_or, ℤ, pos, eqb, leb, Option, Result, Some, None, Ok, option_map}
 use Rattle.paper.specs.Tests.{eq_z}
-use Rattle.paper.specs.Columns.{whole_line}
+use Rattle.paper.specs.Columns.{whole_line, refused_at}
 use Rattle.paper.specs.Gaps.{gap_of}
 use Rattle.paper.specs.Clock.{Waits}
 use Rattle.paper.specs.declared.Fault.{Fault}
-use Rattle.paper.specs.declared.Fault.TheVariants as Fault
 use Rattle.paper.specs.declared.Data.TheVariants.{Others}
 use Rattle.paper.specs.declared.Role.{Role}
 use Rattle.paper.specs.declared.Role.TheVariants.{Neither, Send, Receive}
 use Rattle.paper.specs.declared.Entry.{Entry}
-use Rattle.paper.specs.declared.Stop.{Stop}
-use Rattle.paper.specs.declared.Stop.TheVariants.{End, At}
+use Rattle.paper.specs.declared.Refusal.{Refusal}
 
 -- ---- who sends what to whom
 
@@ -52,15 +49,15 @@ count_if test (e ∷ es) = cond (test e) (suc (count_if test es)) (count_if test
 
 -- the place of the k-th send under a key, k and places counted from 0
 unfoldable pub send_place : Key → ℕ → List Entry → Option ℕ
-send_place key k [] = none
-send_place key zero (e ∷ es) = let more = map suc (send_place key zero es) in cond (is_send_of key e) (some 0) more
-send_place key (suc k) (e ∷ es) = cond (is_send_of key e) (map suc (send_place key k es)) (map suc (send_place key (suc k) es))
+send_place key k [] = None
+send_place key zero (e ∷ es) = let more = option_map suc (send_place key zero es) in cond (is_send_of key e) (Some 0) more
+send_place key (suc k) (e ∷ es) = cond (is_send_of key e) (option_map suc (send_place key k es)) (option_map suc (send_place key (suc k) es))
 
 -- "The k-th receive at processor q from p with type t belongs to the k-th send from p to q with type t, both counted in file
 -- order": the send of the entry at place i, where that has a role on a processor
 unfoldable pub send_for : List Entry → ℕ → ℕ → Role → Option ℕ
-send_for es i processor Neither = none
-send_for es i processor (Send m) = none
+send_for es i processor Neither = None
+send_for es i processor (Send m) = None
 send_for es i processor (Receive m) =
     let key : Key = record { sender = m.peer; receiver = processor; tag = m.tag } in
     send_place key (count_if (is_receive_of key) (take i es)) es
@@ -91,24 +88,24 @@ length_at es j = length_sent (entry_at es j).body.role
 -- what a receive of so many bytes calls for: 13 where it has no send, 14 "exactly if the received length is above the sent one"
 -- (change request 4)
 unfoldable pub call_of : List Entry → ℕ → Option ℕ → Option Fault
-call_of es received none = some Fault.NoSend
-call_of es received (some j) = cond (leb received (length_at es j)) none (some Fault.LongReceive)
+call_of es received None = Some Fault.NoSend
+call_of es received (Some j) = cond (leb received (length_at es j)) None (Some Fault.LongReceive)
 
 unfoldable pub call_for : List Entry → ℕ → Role → Option Fault
-call_for es i Neither = none
-call_for es i (Send m) = none
+call_for es i Neither = None
+call_for es i (Send m) = None
 call_for es i (Receive m) = call_of es m.length (send_of es i)
 
-abbrev pub on_call : Option Fault → ℕ → Stop → Stop
-on_call none line more = more
-on_call (some fault) line more = At fault (whole_line line)
+abbrev pub on_call : Option Fault → ℕ → Result Unit Refusal → Result Unit Refusal
+on_call None line more = more
+on_call (Some fault) line more = refused_at fault (whole_line line)
 
 -- "the first receive in file order that calls for 13 or 14", among the entries from place i on
-unfoldable pub matched_from : List Entry → ℕ → List Entry → Stop
-matched_from es i [] = End
+unfoldable pub matched_from : List Entry → ℕ → List Entry → Result Unit Refusal
+matched_from es i [] = Ok tt
 matched_from es i (e ∷ more) = on_call (call_for es i e.body.role) e.line (matched_from es (i + 1) more)
 
-unfoldable pub matched_of : List Entry → Stop
+unfoldable pub matched_of : List Entry → Result Unit Refusal
 matched_of es = matched_from es 0 es
 
 -- ---- the counts
@@ -135,8 +132,8 @@ unreceived_count es = count_if (λ e. is_send e.body.role) es - matched_count es
 
 -- the last of the first i entries that passes a test
 unfoldable pub last_of : (Entry → Bool) → List Entry → ℕ → Option ℕ
-last_of test es zero = none
-last_of test es (suc i) = let earlier = last_of test es i in cond (test (entry_at es i)) (some i) earlier
+last_of test es zero = None
+last_of test es (suc i) = let earlier = last_of test es i in cond (test (entry_at es i)) (Some i) earlier
 
 abbrev pub is_on : ℕ → Entry → Bool
 is_on processor e = eqb e.body.processor processor
@@ -153,8 +150,8 @@ latency_for latencies processor (Receive m) = get_or latencies (64 * m.peer + pr
 
 -- the gap that is kept of the one between the entry at place i and the one before it on its processor
 unfoldable pub gap_from : ℕ → List Entry → ℕ → Option ℕ → ℕ
-gap_from share es i none = 0
-gap_from share es i (some j) = gap_of share (entry_at es j).body.time (entry_at es i).body.time
+gap_from share es i None = 0
+gap_from share es i (Some j) = gap_of share (entry_at es j).body.time (entry_at es i).body.time
 
 unfoldable pub waits_of : (share : ℕ) (latencies : List ℕ) → List Entry → Waits
 waits_of share latencies es =

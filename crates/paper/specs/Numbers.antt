@@ -2,7 +2,6 @@
 -- the first, of the sixth, of the eighth and of the seventh.
 use Rattle.std.specs.Prelude.{ℕ}
 use Rattle.paper.specs.declared.Fault.{Fault}
-use Rattle.paper.specs.declared.Fault.TheVariants as Fault
 
 unfoldable pub number_of : Fault → ℕ
 -- "choice is neither 1 (strict) nor 2 (lenient)"; "0 for off .. or 1 for on; any other is refusal 1"

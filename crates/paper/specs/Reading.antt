@@ -1,18 +1,15 @@
 -- Document 01, "line by line, the first bad line deciding": a trace as its lines, and the state over them.
-use Rattle.std.specs.Prelude.{ℕ, ◌+◌, List, [], ◌∷◌, cond, get_or, set, replicate, ℤ, pos, negsuc, leb, eqb}
+use Rattle.std.specs.Prelude.{ℕ, ◌+◌, List, [], ◌∷◌, cond, get_or, set, replicate, ℤ, pos, negsuc, leb, eqb, Result, None, Ok}
 use Rattle.std.specs.Int.Signed.{lt_z}
 use Rattle.paper.specs.Line.{line_of}
-use Rattle.paper.specs.Columns.{past_end, column_in, in_line}
+use Rattle.paper.specs.Columns.{past_end, column_in, in_line, refused_at}
 use Rattle.paper.specs.declared.Choice.{Choice}
 use Rattle.paper.specs.declared.Fault.{Fault}
-use Rattle.paper.specs.declared.Fault.TheVariants as Fault
 use Rattle.paper.specs.declared.Record.{Record}
 use Rattle.paper.specs.declared.Entry.{Entry}
 use Rattle.paper.specs.declared.Line.{Line}
 use Rattle.paper.specs.declared.Line.TheVariants.{Refused, Passed, Listed}
-use Rattle.paper.specs.declared.Spot.TheVariants.{Whole}
-use Rattle.paper.specs.declared.Stop.{Stop}
-use Rattle.paper.specs.declared.Stop.TheVariants.{End, At}
+use Rattle.paper.specs.declared.Refusal.{Refusal}
 
 -- ---- lines
 
@@ -49,8 +46,8 @@ unfoldable pub checked : ℕ → State → Line → Line
 checked most st (Refused fault spot) = Refused fault spot
 checked most st Passed = Passed
 checked most st (Listed r) =
-    cond (lt_z r.time (get_or st.last r.processor (pos 0))) (Refused Fault.Backwards Whole)
-    (cond (leb most st.listed) (Refused Fault.TooMany Whole) (Listed r))
+    cond (lt_z r.time (get_or st.last r.processor (pos 0))) (Refused Fault.Backwards None)
+    (cond (leb most st.listed) (Refused Fault.TooMany None) (Listed r))
 
 -- one entry replaced at each listed line
 unfoldable pub with_listed : State → Record → State
@@ -61,9 +58,9 @@ with_passed st = record { last = st.last; listed = st.listed; passed = st.passed
 
 -- ---- the reading
 
--- where it ended, the listed records up to there in file order, and the state there
+-- where it ended, which is at the end of what there is or at what is refused, the listed records up to there in file order, and the state there
 pub record Reading : Type 0 where
-  pub stop : Stop
+  pub stop : Result Unit Refusal
   pub entries : List Entry
   pub state : State
 
@@ -72,7 +69,7 @@ with_entry e r = record { stop = r.stop; entries = e ∷ r.entries; state = r.st
 
 -- one that ends at a line, refused at a column of it
 abbrev pub stops_at : Fault → ℕ → ℕ → State → Reading
-stops_at fault n column st = record { stop = At fault (in_line n column); entries = []; state = st }
+stops_at fault n column st = record { stop = refused_at fault (in_line n column); entries = []; state = st }
 
 -- the reading from line n on, a line checked and the lines after it read from a state
 unfoldable pub on_line : ℕ → List ℕ → State → Line → (State → Reading) → Reading
@@ -81,7 +78,7 @@ on_line n l st Passed more = more (with_passed st)
 on_line n l st (Listed r) more = with_entry (record { line = n; body = r }) (more (with_listed st r))
 
 unfoldable pub read_from : Choice → ℕ → Lines → ℕ → State → Reading
-read_from choice most done n st = record { stop = End; entries = []; state = st }
+read_from choice most done n st = record { stop = Ok tt; entries = []; state = st }
 read_from choice most (unended l) n st = stops_at Fault.Form n (past_end l) st
 read_from choice most (ended l more) n st =
     on_line n l st (checked most st (line_of choice l)) (λ st₁. read_from choice most more (n + 1) st₁)

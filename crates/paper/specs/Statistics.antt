@@ -1,9 +1,8 @@
 -- The eighth change request, "Check the statistics records": "Those with event field -1 are compared, pair by pair, with that processor's
 -- earlier records of the pair's event at original times". Records are earlier in the file.
-use Rattle.std.specs.Prelude.{ℕ, zero, suc, ◌+◌, ◌-◌, Bool, true, false, cond, ◌&&◌, ◌||◌, not, List, [], ◌∷◌, take, ℤ, pos, nat_abs, ◌+ℤ◌, ◌-ℤ◌, leb, eqb}
-use Rattle.std.proofs.Math.Option.{Option, none, some}
+use Rattle.std.specs.Prelude.{ℕ, zero, suc, ◌+◌, ◌-◌, Bool, true, false, cond, ◌&&◌, ◌||◌, not, List, [], ◌∷◌, take, ℤ, pos, nat_abs, ◌+ℤ◌, ◌-ℤ◌, leb, eqb, Option, Result, Some, None, Ok}
 use Rattle.paper.specs.Tests.{eq_z, minus, one_of}
-use Rattle.paper.specs.Columns.{whole_line}
+use Rattle.paper.specs.Columns.{whole_line, refused_at}
 use Rattle.paper.specs.Events.{is_statistics, standing_of}
 use Rattle.paper.specs.Line.{Begun, bad, six, Pairs, unpaired, pairs, pairs_for, head_of}
 use Rattle.paper.specs.Matching.{is_on, count_if}
@@ -15,9 +14,7 @@ use Rattle.paper.specs.declared.Record.{Record}
 use Rattle.paper.specs.declared.Role.{Role}
 use Rattle.paper.specs.declared.Role.TheVariants.{Neither, Send, Receive}
 use Rattle.paper.specs.declared.Standing.{Standing}
-use Rattle.paper.specs.declared.Standing.TheVariants as Standing
-use Rattle.paper.specs.declared.Stop.{Stop}
-use Rattle.paper.specs.declared.Stop.TheVariants.{End, At}
+use Rattle.paper.specs.declared.Refusal.{Refusal}
 
 -- ---- the records that a pair tells of
 
@@ -75,11 +72,11 @@ time_differs es processor event told =
 -- volume"
 unfoldable pub volume_kind : ℤ → Option ℤ
 volume_kind event =
-    cond (eq_z event (minus 21)) (some (minus 3)) (cond (one_of (minus 51 ∷ minus 52 ∷ []) event) (some (minus 4)) none)
+    cond (eq_z event (minus 21)) (Some (minus 3)) (cond (one_of (minus 51 ∷ minus 52 ∷ []) event) (Some (minus 4)) None)
 
 abbrev pub on_volume : List Entry → ℕ → ℤ → ℤ → Option ℤ → Bool
-on_volume es processor event told none = false
-on_volume es processor event told (some kind) = not (eq_z told (pos (lengths_if (is_of kind event processor) es)))
+on_volume es processor event told None = false
+on_volume es processor event told (Some kind) = not (eq_z told (pos (lengths_if (is_of kind event processor) es)))
 
 -- "a .. volume of -1 .. and any other volume aren't compared"
 unfoldable pub volume_differs : List Entry → ℕ → ℤ → ℤ → Bool
@@ -135,19 +132,19 @@ line_differs lines es e =
 
 -- ---- all lines
 
-abbrev pub on_differs : Bool → ℕ → Stop → Stop
+abbrev pub on_differs : Bool → ℕ → Result Unit Refusal → Result Unit Refusal
 on_differs false line more = more
-on_differs true line more = At Fault.OtherStatistics (whole_line line)
+on_differs true line more = refused_at Fault.OtherStatistics (whole_line line)
 
 -- "A difference is refusal 19 at the first statistics line in the file that has one", among the entries from place i on
-unfoldable pub compared_from : Lines → List Entry → ℕ → List Entry → Stop
-compared_from lines es i [] = End
+unfoldable pub compared_from : Lines → List Entry → ℕ → List Entry → Result Unit Refusal
+compared_from lines es i [] = Ok tt
 compared_from lines es i (e ∷ more) =
     let later = compared_from lines es (i + 1) more in on_differs (line_differs lines (take i es) e) e.line later
 
 -- "A further number, 0 for off or 1 for on .., switches the comparison"
-unfoldable pub statistics_of : Asked → List ℕ → List Entry → Stop
-statistics_of a trace es = cond (eqb a.statistics 1) (compared_from (lines_of trace) es 0 es) End
+unfoldable pub statistics_of : Asked → List ℕ → List Entry → Result Unit Refusal
+statistics_of a trace es = cond (eqb a.statistics 1) (compared_from (lines_of trace) es 0 es) (Ok tt)
 
 -- ---- sums as they are kept
 

@@ -2,7 +2,6 @@
 use Rattle.std.specs.Prelude.{ℕ, Bool, true, false, ◌&&◌, List, eqb}
 use Prim.Native.Char.{code}
 use Prim.Native.String.{String, [], ◌∷◌}
-use mathlib.Core.List as List
 
 unfoldable pub bytes_of : String → List ℕ
 bytes_of [] = List.[]

@@ -30,13 +30,6 @@ pub enum Choice {
     Lenient,
 }
 
-// What a field reads as: a whole number, or a time in signed microseconds.
-#[derive(Clone, Copy)]
-pub enum Field {
-    Good(i64),
-    Bad,
-}
-
 // The standing of an event type.
 #[derive(Clone, Copy)]
 pub enum Standing {
@@ -90,14 +83,6 @@ pub enum Data {
     Others,
 }
 
-// What the fields behind the six read as in a listed record: its data, or the field that is bad, missing or too many. The fields of a
-// line are counted from 0.
-#[derive(Clone, Copy)]
-pub enum Values {
-    Good(Data),
-    Bad(usize),
-}
-
 // What a record is by its record type and event type.
 #[derive(Clone, Copy)]
 pub enum Part {
@@ -140,17 +125,10 @@ pub struct Entry {
     pub body: Record,
 }
 
-// What decides in a line that is refused: one of its fields, or none of them.
-#[derive(Clone, Copy)]
-pub enum Spot {
-    Field(usize),
-    Whole,
-}
-
-// What a line comes to.
+// What a line comes to. A refusal has the field that decides, counted from 0, or none where the line as a whole does.
 #[derive(Clone, Copy)]
 pub enum Line {
-    Refused(Fault, Spot),
+    Refused(Fault, Option<usize>),
     Passed,
     Listed(Record),
 }
@@ -162,11 +140,11 @@ pub struct Site {
     pub column: usize,
 }
 
-// Where a reading ends: at the end of what there is, or at the place that is refused.
+// Why a trace is refused, and where.
 #[derive(Clone, Copy)]
-pub enum Stop {
-    End,
-    At(Fault, Site),
+pub struct Refusal {
+    pub fault: Fault,
+    pub site: Site,
 }
 
 // What the caller gets back, laid out as C has it.
@@ -200,12 +178,12 @@ pub struct Tally {
     pub passed: u64,
 }
 
-// What two traces come to that are read one after the other: neither is refused and no processor has a listed record in both, or the
-// refusal and which trace it means.
+// Why two traces are not merged, which of them is meant, and where.
 #[derive(Clone, Copy)]
-pub enum Both {
-    Apart(Tally, Tally),
-    Unfit(Fault, Which, Site),
+pub struct Unmerged {
+    pub fault: Fault,
+    pub which: Which,
+    pub site: Site,
 }
 
 // What two traces come to as one: its lines and bytes, and what was counted of either.
@@ -215,13 +193,6 @@ pub struct Joined {
     pub written: u64,
     pub first: Tally,
     pub second: Tally,
-}
-
-// What a merging comes to.
-#[derive(Clone, Copy)]
-pub enum Joint {
-    Refused(Fault, Which, Site),
-    Of(Joined),
 }
 
 // What the caller of a merging gets back, laid out as C has it.

@@ -1,4 +1,3 @@
 pub mod OneOf
-pub mod Parts
 pub mod Statistics
 pub mod Outcome

@@ -1,24 +1,23 @@
--- The loop over a list of numbers: what is left of the list tells what the whole of it tells.
-use Prim.Native.Nat.{ℕ, ◌+◌, ◌≤◌, ◌<◌}
-use mathlib.Core.Path.{◌≡◌}
-use mathlib.Core.Bool.{Bool, true, false}
-use mathlib.Core.List.{List}
-use native.Mathlib.Numerals.{add-one}
-use lib.ListN.{length, drop, get_or, drop_of_length-le}
-use lib.Seq.{drop-cons}
-use lib.IntN.{ℤ, pos}
+-- A number is one of a list as the library's search of the list tells it.
+use mathlib.Core.Path.{◌≡◌, refl}
+use mathlib.Core.List.{List, [], ◌∷◌}
+use lib.IntN.{ℤ, pos, negsuc}
+use Rattle.std.proofs.Common.{arith}
+use Rattle.std.proofs.lemmas.Bool.Decides.{nat_tests}
+use Rattle.std.specs.List.{list_any}
+use Rattle.std.specs.Ordering.{int_eq}
 use Rattle.paper.specs.Tests.{eq_z, one_of}
 
-module _ (l : List ℤ) (i : ℕ) {z u : ℤ} (same : u ≡ z) (inv : one_of (drop i l) u ≡ one_of l u) where
-  module _ (within : i < length l) {t : Bool} {v : ℤ} (here : v ≡ get_or l i (pos 0)) (told : t ≡ eq_z u v) where
-    pub found : t ≡ true → true ≡ one_of l z
-    unfolding one_of
-    found e = rw (← same, ← inv, drop-cons l i (pos 0) within, ← here, ← told, e)
+turned : (a z : ℤ) → int_eq a z ≡ eq_z z a
+turned (pos a) (pos b) = grind (arith, nat_tests)
+turned (pos a) (negsuc b) = refl
+turned (negsuc a) (pos b) = refl
+turned (negsuc a) (negsuc b) = grind (arith, nat_tests)
 
-    pub on : t ≡ false → one_of (drop (i + 1) l) u ≡ one_of l u
-    unfolding one_of
-    on e = rw (← inv, drop-cons l i (pos 0) within, ← here, ← told, e, add-one i)
+held : (l : List ℤ) (z : ℤ) → list_any (λ a. int_eq a z) l ≡ one_of l z
+unfolding one_of
+held [] z = refl
+held (a ∷ l) z = rw (turned a z, held l z)
 
-  pub none_left : length l ≤ i → false ≡ one_of l z
-  unfolding one_of
-  none_left h = rw (← same, ← inv, drop_of_length-le l h)
+pub contained : (l : List ℤ) {u z : ℤ} → u ≡ z → list_any (λ a. int_eq a u) l ≡ one_of l z
+contained l {u} {z} e = rw e (held l z)

@@ -1,25 +1,20 @@
--- The record types of statistics, told by two tests.
+-- The record types of statistics are at most -101.
 use Prim.Native.Nat.{◌<◌}
 use native.Mathlib.Omega.{arith}
-use mathlib.Core.Path.{◌≡◌, refl, sym, ◌∙◌}
-use mathlib.Core.Bool.{Bool, true, false}
+use mathlib.Core.Path.{◌≡◌, refl, sym}
+use mathlib.Core.Bool.{false}
 use lib.IntN.{ℤ, pos, negsuc}
-use lib.Signed.{lt_z}
-use borrow.Author.Tests.{ltb-true, ne_eqb}
+use lib.Signed.{le_z}
+use borrow.Author.Tests.{leb-false, ne_eqb}
 use Rattle.paper.specs.Tests.{minus, one_of}
-use Rattle.paper.specs.Events.{statistics_kinds, is_statistics}
+use Rattle.paper.specs.Events.{is_statistics}
 
-above_none : (k : ℤ) → lt_z (minus 101) k ≡ true → is_statistics k ≡ false
+above_none : (k : ℤ) → le_z k (minus 101) ≡ false → is_statistics k ≡ false
 unfolding is_statistics one_of
 above_none (pos n) h = refl
 above_none (negsuc n) h =
-    let below : n < 100 = ltb-true n 100 h in
+    let below : n < 100 = leb-false 100 n h in
     rw (ne_eqb n 100 (λ e. omega arith), ne_eqb n 101 (λ e. omega arith), ne_eqb n 102 (λ e. omega arith))
 
-module _ {k u : ℤ} (same : u ≡ k) {t : Bool} where
-  pub above : t ≡ lt_z (minus 101) u → t ≡ true → false ≡ is_statistics k
-  above tells is = sym (above_none k (rw (← same) (sym tells ∙ is)))
-
-  pub among : t ≡ one_of statistics_kinds u → t ≡ is_statistics k
-  unfolding is_statistics
-  among tells = rw (← same) tells
+pub above : {k u : ℤ} → u ≡ k → le_z u (minus 101) ≡ false → false ≡ is_statistics k
+above {k} same h = sym (above_none k (rw same at h))

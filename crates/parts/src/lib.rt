@@ -24,16 +24,10 @@ const RECEIVES: [i64; 5] = [-51, -52, -58, -60, -61];
 fn one_of(numbers: &[i64], z: i64) -> bool
     ensures { result ≡ one_of numbers.now z }
 {
-    let mut i = 0;
-    while i < numbers.len() {
-        if signed::same(z, numbers[i]) {
-            return true;
-        }
-        i += 1;
-    }
-    false
+    numbers.contains(&z)
 }
 
+#[tactic(auto, unfolding(paper::specs::Events::listed_kind))]
 pub fn listed_kind(kind: i64) -> bool
     ensures { result ≡ listed_kind kind }
 {
@@ -41,25 +35,21 @@ pub fn listed_kind(kind: i64) -> bool
 }
 
 // One comparison for every other listed record type, all of which are above these.
+#[tactic(auto, unfolding(paper::specs::Events::is_statistics))]
 pub fn is_statistics(kind: i64) -> bool
     ensures { result ≡ is_statistics kind }
 {
-    if signed::earlier(-101, kind) {
-        return false;
-    }
-    one_of(&STATISTICS, kind)
+    kind <= -101 && one_of(&STATISTICS, kind)
 }
 
 // A record of this type, and of one of these events.
 fn is_record(kind: i64, of: i64, event: i64, events: &[i64]) -> bool
     ensures { result ≡ (eq_z kind of && one_of events.now event) }
 {
-    if signed::same(kind, of) {
-        return one_of(events, event);
-    }
-    false
+    kind == of && one_of(events, event)
 }
 
+#[tactic(auto, unfolding(paper::specs::Line::part_of))]
 pub fn part_of(kind: i64, event: i64) -> Part
     ensures { result ≡ part_of kind event }
 {

@@ -1,4 +1,5 @@
 -- Where the statements of the public calls leave an answer besides doubt, they leave one.
+use Rattle.std.specs.Prelude.{Option, Result, Some, Ok}
 use Prim.Native.Nat.{ℕ}
 use mathlib.Core.Path.{◌≡◌, refl, sym, ap, ◌∙◌}
 use mathlib.Core.List.{List}
@@ -10,13 +11,10 @@ use lib.IntN.{ℤ}
 use Rattle.octets.specs.Octets.{index_of}
 use Rattle.paper.specs.Line.{six}
 use Rattle.paper.specs.declared.Data.{Data}
-use Rattle.paper.specs.declared.Values.TheVariants.{Good}
 use Rattle.paper.specs.declared.Head.{Head}
 use Rattle.reading.specs.Places.{line_at, next_line}
 use Rattle.reading.specs.Rests.{fields_from, end_from}
 use Rattle.reading.proofs.Fields.{index_within}
-use Rattle.quick.specs.declared.Begins.TheVariants as Begins
-use Rattle.quick.specs.declared.Holds.TheVariants as Holds
 use Rattle.quick.specs.Lines.{OpensAt, BeginsAt, DataAt, HoldsAt}
 
 -- where a line starts is told by its bytes and by where the next one starts
@@ -34,8 +32,8 @@ one_rest s true false n m e f = (cc, cc)
 one_rest s false true n m e f = (cc, cc)
 one_rest s false false n m e f = let k : line_at s n ≡ line_at s m = cc in (refl, one_start s n m k f)
 
-pub one_six : (s : List ℕ) (at : ℕ) (h g : Head) (a b : Bool) (n m : ℕ) → BeginsAt s at (Begins.Six h a n) → BeginsAt s at (Begins.Six g b m)
-    → Begins.Six h a n ≡ Begins.Six g b m
+pub one_six : (s : List ℕ) (at : ℕ) (h g : Head) (a b : Bool) (n m : ℕ) → BeginsAt s at (Some (h, a, n)) → BeginsAt s at (Some (g, b, m))
+    → ◌≡◌ {A = Option (Head × Bool × ℕ)} (Some (h, a, n)) (Some (g, b, m))
 unfolding BeginsAt OpensAt
 one_six s at h g a b n m e f =
     let both : six h (fields_from s a n) ≡ six g (fields_from s b m) = sym e.reads ∙ f.reads in
@@ -44,11 +42,11 @@ one_six s at h g a b n m e f =
     let one = one_rest s a b n m rest (sym e.same ∙ f.same) in
     rw (head, one.0, one.1)
 
-pub one_data : (s : List ℕ) (ended : Bool) (at : ℕ) (kind : ℤ) (k : ℕ) (v w : Data) (n m : ℕ) → HoldsAt s ended at kind k (Holds.Of v n)
-    → HoldsAt s ended at kind k (Holds.Of w m)
-    → Holds.Of v n ≡ Holds.Of w m
+pub one_data : (s : List ℕ) (ended : Bool) (at : ℕ) (kind : ℤ) (k : ℕ) (v w : Data) (n m : ℕ) → HoldsAt s ended at kind k (Some (v, n))
+    → HoldsAt s ended at kind k (Some (w, m))
+    → ◌≡◌ {A = Option (Data × ℕ)} (Some (v, n)) (Some (w, m))
 unfolding HoldsAt DataAt
 one_data s ended at kind k v w n m e f =
-    let both : Good v ≡ Good w = e.is ∙ sym f.is in
+    let both : ◌≡◌ {A = Result Data ℕ} (Ok v) (Ok w) = e.is ∙ sym f.is in
     let same : v ≡ w = cc in
     rw (same, ← e.ends, ← f.ends)

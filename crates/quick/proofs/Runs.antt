@@ -1,9 +1,9 @@
 -- Digits read where they stand.
+use Rattle.std.specs.Prelude.{Some}
 use Prim.Native.Nat.{ℕ, ◌+◌, ◌-◌, ◌*◌, ◌≤◌, ◌<◌}
 use mathlib.Core.Path.{◌≡◌, refl, sym, ap, ◌∙◌}
 use mathlib.Core.List.{List, [], ◌∷◌, ◌++◌}
 use mathlib.Core.Bool.{Bool, true, false, not, ◌||◌, ◌&&◌}
-use mathlib.Core.Option.{some}
 use native.Mathlib.Numerals.{add-one}
 use native.Mathlib.Nat.{zero-add}
 use native.Mathlib.Omega.{arith}
@@ -30,13 +30,13 @@ a_digit b e = let p = both (leb 48 b) (leb b 57) (not-false _ e) in (leb-true 48
 pub record Going (s : List ℕ) (at i v : ℕ) : Type 0 where
   pub word : List ℕ
   pub is : drop at s ≡ word ++ drop i s
-  pub reads : digits_from 0 word ≡ some v
+  pub reads : digits_from 0 word ≡ Some v
   pub led : get_or word 0 0 ≡ 48 → ⊥
   pub long : i ≡ at + length word
   pub some_digit : 0 < length word
   pub few : length word ≤ 9
 
-one : (v b : ℕ) → not (is_digit b) ≡ false → digits_from v (b ∷ []) ≡ some (v * 10 + (b - 48))
+one : (v b : ℕ) → not (is_digit b) ≡ false → digits_from v (b ∷ []) ≡ Some (v * 10 + (b - 48))
 unfolding digits_from
 one v b d = rw (not-false (is_digit b) d)
 
@@ -46,14 +46,14 @@ module _ (s : List ℕ) (at b : ℕ) (h : at < length s) (e : b ≡ get_or s at 
       record {
         word = b ∷ [];
         is = here s at b h e;
-        reads = one 0 b d ∙ ap some (omega arith);
+        reads = one 0 b d ∙ ap Some (omega arith);
         led = z;
         long = refl;
         some_digit = lit< tt;
         few = omega arith;
       }
 
-  pub zero_alone : b ≡ 48 → Word whole_part some 9 s at 0 (at + 1)
+  pub zero_alone : b ≡ 48 → Word whole_part Some 9 s at 0 (at + 1)
   zero_alone z =
       record {
         word = 48 ∷ [];
@@ -64,7 +64,7 @@ module _ (s : List ℕ) (at b : ℕ) (h : at < length s) (e : b ≡ get_or s at 
       }
 
 module _ (s : List ℕ) (at i v : ℕ) (g : Going s at i v) where
-  pub done : Word whole_part some 9 s at v i
+  pub done : Word whole_part Some 9 s at v i
   done =
       record {
         word = g.word;
@@ -100,9 +100,9 @@ outside b = go (ltb b 48) (ltb 57 b) refl refl
     go false false p q = rw (le-leb 48 b (ltb-false b 48 p), le-leb b 57 (ltb-false 57 b q))
 
 -- one digit, a 0 among them
-pub alone : (s : List ℕ) (at b : ℕ) → at < length s → b ≡ get_or s at 0 → not (is_digit b) ≡ false → Word whole_part some 9 s at (b - 48) (at + 1)
+pub alone : (s : List ℕ) (at b : ℕ) → at < length s → b ≡ get_or s at 0 → not (is_digit b) ≡ false → Word whole_part Some 9 s at (b - 48) (at + 1)
 alone s at b h e d = go (eqb b 48) refl
   where
-    go : (t : Bool) → eqb b 48 ≡ t → Word whole_part some 9 s at (b - 48) (at + 1)
+    go : (t : Bool) → eqb b 48 ≡ t → Word whole_part Some 9 s at (b - 48) (at + 1)
     go true q = let z = eqb-true b 48 q in rw z (zero_alone s at b h e z)
     go false q = done s at (at + 1) (b - 48) (begins s at b h e d (eqb-false b 48 q))

@@ -1,9 +1,9 @@
 -- A size behind its sign.
+use Rattle.std.specs.Prelude.{Option, Some, None}
 use Prim.Native.Nat.{ℕ, zero, suc, ◌+◌, ◌≤◌, ◌<◌}
 use mathlib.Core.Path.{◌≡◌, refl, sym, ap, subst, ◌∙◌}
 use mathlib.Core.List.{List, [], ◌∷◌, ◌++◌}
 use mathlib.Core.Bool.{Bool, true, false}
-use mathlib.Core.Option.{Option}
 use native.Mathlib.Omega.{arith}
 use native.Mathlib.Nat.{add-zero}
 use lib.ListN.{length, get_or, drop}
@@ -13,22 +13,20 @@ use lib.Dec.{eqb}
 use borrow.Author.Tests.{ne_eqb, eqb-true, eqb-false}
 use Rattle.paper.specs.Forms.{has_minus, signed, behind_sign}
 use Rattle.forms.specs.Sizes.{AtMost}
-use Rattle.quick.specs.declared.digits.Sized.{Sized}
-use Rattle.quick.specs.declared.number.Number.TheVariants.{Of, Doubt}
 use Rattle.quick.specs.Words.{SizeAt, NumberAt, start_at, Within, signed_by}
 use Rattle.quick.proofs.Runs.{here}
 
-pub within : (size : List ℕ → Option ℕ) → ((s : List ℕ) → AtMost 999999999999999 (size s)) → (most : ℕ) (s : List ℕ) (at : ℕ) (z : Sized) → SizeAt size most s at z → Within z
+pub within : (size : List ℕ → Option ℕ) → ((s : List ℕ) → AtMost 999999999999999 (size s)) → (most : ℕ) (s : List ℕ) (at : ℕ) (z : Option (ℕ × ℕ)) → SizeAt size most s at z → Within z
 unfolding SizeAt Within AtMost
-within size b most s at (Sized.Of v end) t = b t.word v t.reads
-within size b most s at Sized.Doubt t = tt
+within size b most s at (Some (v, end)) t = b t.word v t.reads
+within size b most s at None t = tt
 
 module _ (size : List ℕ → Option ℕ) (most : ℕ) (s : List ℕ) (at : ℕ) where
-  pub behind_minus : (z : Sized) → at < length s → get_or s at 0 ≡ 45 → SizeAt size most s (at + 1) z → NumberAt (behind_sign size) (most + 1) s at (signed_by true z)
+  pub behind_minus : (z : Option (ℕ × ℕ)) → at < length s → get_or s at 0 ≡ 45 → SizeAt size most s (at + 1) z → NumberAt (behind_sign size) (most + 1) s at (signed_by true z)
   unfolding SizeAt NumberAt signed_by behind_sign has_minus signed
-  behind_minus Sized.Doubt h e t = tt
-  behind_minus (Sized.Of zero end) h e t = tt
-  behind_minus (Sized.Of (suc n) end) h e t =
+  behind_minus None h e t = tt
+  behind_minus (Some (zero, end)) h e t = tt
+  behind_minus (Some (suc n, end)) h e t =
       record {
         word = 45 ∷ t.word;
         is = here s at 45 h (sym e) ∙ ap (λ (l : List ℕ). 45 ∷ l) t.is;
@@ -42,10 +40,10 @@ module _ (size : List ℕ → Option ℕ) (most : ℕ) (s : List ℕ) (at : ℕ)
   no_minus [] r h e = refl
   no_minus (b ∷ w) r h e = ne_eqb b 45 (λ q. h (sym (rw add-zero at (get_or-drop at s 0 0)) ∙ ap (λ (l : List ℕ). get_or l 0 0) e ∙ q))
 
-  pub behind_none : (z : Sized) → (get_or s at 0 ≡ 45 → ⊥) → SizeAt size most s at z → NumberAt (behind_sign size) (most + 1) s at (signed_by false z)
+  pub behind_none : (z : Option (ℕ × ℕ)) → (get_or s at 0 ≡ 45 → ⊥) → SizeAt size most s at z → NumberAt (behind_sign size) (most + 1) s at (signed_by false z)
   unfolding SizeAt NumberAt signed_by behind_sign signed
-  behind_none Sized.Doubt h t = tt
-  behind_none (Sized.Of n end) h t =
+  behind_none None h t = tt
+  behind_none (Some (n, end)) h t =
       record {
         word = t.word;
         is = t.is;
@@ -55,7 +53,7 @@ module _ (size : List ℕ → Option ℕ) (most : ℕ) (s : List ℕ) (at : ℕ)
       }
 
   -- the sign is tested, and the size starts behind it
-  pub signed_here : (minus : Bool) (from : ℕ) (z : Sized) → at < length s → minus ≡ eqb (get_or s at 0) 45 → from ≡ start_at minus at
+  pub signed_here : (minus : Bool) (from : ℕ) (z : Option (ℕ × ℕ)) → at < length s → minus ≡ eqb (get_or s at 0) 45 → from ≡ start_at minus at
       → SizeAt size most s from z → NumberAt (behind_sign size) (most + 1) s at (signed_by minus z)
   unfolding start_at
   signed_here true from z h m f t = behind_minus z h (eqb-true (get_or s at 0) 45 (sym m)) (subst (λ (i : ℕ). SizeAt size most s i z) f t)
@@ -66,16 +64,16 @@ unfolding start_at
 started true at from e = omega arith
 started false at from e = omega arith
 
-pub minus_of : (n end : ℕ) → (n ≡ 0 → ⊥) → signed_by true (Sized.Of n end) ≡ Of (neg_ℤ (pos n)) end
+pub minus_of : (n end : ℕ) → (n ≡ 0 → ⊥) → signed_by true (Some (n, end)) ≡ Some (neg_ℤ (pos n), end)
 unfolding signed_by
 minus_of zero end h = absurd (h refl)
 minus_of (suc n) end h = refl
 
-pub fits_within : (z : Sized) → Within z → (v end : ℕ) → z ≡ Sized.Of v end → v ≤ 999999999999999
+pub fits_within : (z : Option (ℕ × ℕ)) → Within z → (v end : ℕ) → z ≡ Some (v, end) → v ≤ 999999999999999
 unfolding Within
 fits_within z w v end e = subst Within e w
 
-pub no_size : (minus : Bool) → Doubt ≡ signed_by minus Sized.Doubt
+pub no_size : (minus : Bool) → None ≡ signed_by minus None
 unfolding signed_by
 no_size true = refl
 no_size false = refl

@@ -1,9 +1,9 @@
 -- A point and six digits: every byte asked at once, and one sum.
+use Rattle.std.specs.Prelude.{Some}
 use Prim.Native.Nat.{ℕ, ◌+◌, ◌-◌, ◌*◌, ◌≤◌, ◌<◌}
 use mathlib.Core.Path.{◌≡◌, refl, ap, ◌∙◌}
 use mathlib.Core.List.{List, [], ◌∷◌}
 use mathlib.Core.Bool.{Bool, true, false, not, ◌||◌}
-use mathlib.Core.Option.{some}
 use native.Mathlib.Omega.{arith}
 use lib.ListN.{length, get_or, drop}
 use lib.Dec.{ltb, eqb}
@@ -74,7 +74,7 @@ pub six_below : (a b c d e f : ℕ) → Six a b c d e f → six_of a b c d e f <
 unfolding six_of
 six_below a b c d e f h = omega (arith, h)
 
-six_read : (x a b c d e f : ℕ) → Six a b c d e f → digits_from x (a ∷ b ∷ c ∷ d ∷ e ∷ f ∷ []) ≡ some (x * 1000000 + six_of a b c d e f)
+six_read : (x a b c d e f : ℕ) → Six a b c d e f → digits_from x (a ∷ b ∷ c ∷ d ∷ e ∷ f ∷ []) ≡ Some (x * 1000000 + six_of a b c d e f)
 unfolding digits_from
 six_read x a b c d e f h =
     step x a (b ∷ c ∷ d ∷ e ∷ f ∷ []) h.a_low h.a_high
@@ -83,7 +83,7 @@ six_read x a b c d e f h =
     ∙ step _ d (e ∷ f ∷ []) h.d_low h.d_high
     ∙ step _ e (f ∷ []) h.e_low h.e_high
     ∙ step _ f [] h.f_low h.f_high
-    ∙ ap some (sum x a b c d e f h)
+    ∙ ap Some (sum x a b c d e f h)
 
 module _ (s : List ℕ) (at : ℕ) {p a b c d e f : ℕ} (h : at + 7 ≤ length s)
     (ep : p ≡ get_or s at 0) (ea : a ≡ get_or s (at + 1) 0) (eb : b ≡ get_or s (at + 2) 0) (ec : c ≡ get_or s (at + 3) 0)

@@ -1,9 +1,6 @@
 -- A point and six digits.
-use Rattle.std.specs.Prelude.{ℕ, ◌+◌, ◌-◌, ◌*◌, ◌≤◌, ◌<◌, ◌≡◌, List, ◌∷◌, ◌++◌, length, drop}
-use Rattle.std.proofs.Math.Option.{some}
+use Rattle.std.specs.Prelude.{ℕ, ◌+◌, ◌-◌, ◌*◌, ◌≤◌, ◌<◌, ◌≡◌, List, ◌∷◌, ◌++◌, length, drop, Option, Some, None}
 use Rattle.paper.specs.Forms.{digits_from}
-use Rattle.forms.specs.declared.Size.{Size}
-use Rattle.forms.specs.declared.Size.TheVariants.{Of, Bad}
 
 pub record Six (a b c d e f : ℕ) : Type 0 where
   pub a_low : 48 ≤ a
@@ -32,9 +29,9 @@ pub record Micros (s : List ℕ) (at v : ℕ) : Type 0 where
   pub word : List ℕ
   pub is : drop at s ≡ 46 ∷ (word ++ drop (at + 7) s)
   pub long : length word ≡ 6
-  pub reads : (x : ℕ) → digits_from x word ≡ some (x * 1000000 + v)
+  pub reads : (x : ℕ) → digits_from x word ≡ Some (x * 1000000 + v)
   pub below : v < 1000000
 
-unfoldable pub MicrosAt : List ℕ → ℕ → Size → Type 0
-MicrosAt s at (Of v) = Micros s at v
-MicrosAt s at Bad = Unit
+unfoldable pub MicrosAt : List ℕ → ℕ → Option ℕ → Type 0
+MicrosAt s at (Some v) = Micros s at v
+MicrosAt s at None = Unit

@@ -5,37 +5,20 @@ ghost use Rattle.paper.specs.Forms.{whole_of, time_of, text_of};
 ghost use Rattle.field.specs.Cursor.{read_as};
 ghost use Rattle.quick.specs.Words.{NumberAt, FieldAt, start_at, Within, signed_by, Inside, stopped_by};
 
-use crate::digits::Sized;
 use crate::{digits, stamp};
 use field::Form;
 
-// A number, and where it ends; or, once the byte behind it was looked at, where what follows that byte starts.
-#[derive(Clone, Copy)]
-pub(crate) enum Number {
-    Of(i64, usize),
-    Doubt,
-}
-
 // "negated after the digits are read"; nothing is good as "-0".
-fn with_sign(minus: bool, size: Sized) -> Number
+fn with_sign(minus: bool, size: Option<(u64, usize)>) -> Option<(i64, usize)>
     requires { Within size }
     ensures { result ≡ signed_by minus size }
 {
-    match size {
-        Sized::Of(m, end) => {
-            let z = m as i64;
-            if minus {
-                if m == 0 {
-                    Number::Doubt
-                } else {
-                    Number::Of(-z, end)
-                }
-            } else {
-                Number::Of(z, end)
-            }
-        }
-        Sized::Doubt => Number::Doubt,
+    let (m, end) = size?;
+    let z = m as i64;
+    if !minus {
+        return Some((z, end));
     }
+    if m == 0 { None } else { Some((-z, end)) }
 }
 
 fn behind(minus: bool, at: usize) -> usize
@@ -45,7 +28,7 @@ fn behind(minus: bool, at: usize) -> usize
     if minus { at + 1 } else { at }
 }
 
-fn signed_whole(s: &[u8], at: usize) -> Number
+fn signed_whole(s: &[u8], at: usize) -> Option<(i64, usize)>
     requires { at + 11 ≤ length s.now }
     ensures { NumberAt whole_of 10 s.now at result }
 {
@@ -55,7 +38,7 @@ fn signed_whole(s: &[u8], at: usize) -> Number
 }
 
 // The two ways, and no place behind the sign, are quicker where the size is read by a call.
-fn signed_time(s: &[u8], at: usize) -> Number
+fn signed_time(s: &[u8], at: usize) -> Option<(i64, usize)>
     requires { at + 18 ≤ length s.now }
     ensures { NumberAt time_of 17 s.now at result }
 {
@@ -66,33 +49,32 @@ fn signed_time(s: &[u8], at: usize) -> Number
 }
 
 // A number, if the byte that is due stands behind it.
-fn stopped(s: &[u8], x: Number, stop: u8) -> Number
+fn stopped(s: &[u8], x: Option<(i64, usize)>, stop: u8) -> Option<(i64, usize)>
     requires { Inside s.now x }
     ensures { result ≡ stopped_by s.now stop x }
 {
-    let Number::Of(v, end) = x else {
-        return Number::Doubt;
-    };
+    let (v, end) = x?;
     if s[end] == stop {
-        return Number::Of(v, end + 1);
+        Some((v, end + 1))
+    } else {
+        None
     }
-    Number::Doubt
 }
 
 // One digit, behind which the byte that is due was seen.
-fn digit(s: &[u8], at: usize, stop: u8) -> Number
+fn digit(s: &[u8], at: usize, stop: u8) -> Option<(i64, usize)>
     requires { (at + 2 ≤ length s.now) × (get_or s.now (at + 1) 0 ≡ stop) }
     ensures { FieldAt whole_of 11 s.now at stop result }
 {
-    let b = digits::wide(s[at]);
+    let b = u64::from(s[at]);
     if digits::no_digit(b) {
-        return Number::Doubt;
+        return None;
     }
-    with_sign(false, Sized::Of(b - 48, at + 2))
+    with_sign(false, Some((b - 48, at + 2)))
 }
 
 // One digit alone is so frequent that it is asked for first.
-pub(crate) fn whole(s: &[u8], at: usize, stop: u8) -> Number
+pub(crate) fn whole(s: &[u8], at: usize, stop: u8) -> Option<(i64, usize)>
     requires { at + 11 ≤ length s.now }
     ensures { FieldAt whole_of 11 s.now at stop result }
 {
@@ -102,7 +84,7 @@ pub(crate) fn whole(s: &[u8], at: usize, stop: u8) -> Number
     stopped(s, signed_whole(s, at), stop)
 }
 
-pub(crate) fn time(s: &[u8], at: usize, stop: u8) -> Number
+pub(crate) fn time(s: &[u8], at: usize, stop: u8) -> Option<(i64, usize)>
     requires { at + 18 ≤ length s.now }
     ensures { FieldAt time_of 18 s.now at stop result }
 {
@@ -110,18 +92,19 @@ pub(crate) fn time(s: &[u8], at: usize, stop: u8) -> Number
 }
 
 // This text, and the byte that is due behind it.
-fn quoted(s: &[u8], at: usize, text: &[u8], stop: u8) -> Number
+fn quoted(s: &[u8], at: usize, text: &[u8], stop: u8) -> Option<(i64, usize)>
     requires { at + length text.now < length s.now }
     ensures { FieldAt (text_of text.now) (length text.now + 1) s.now at stop result }
 {
     let end = at + text.len();
-    if texts::is_same(&s[at..end], text) {
-        return stopped(s, Number::Of(0, end), stop);
+    if &s[at..end] == text {
+        stopped(s, Some((0, end)), stop)
+    } else {
+        None
     }
-    Number::Doubt
 }
 
-pub(crate) fn in_form(form: Form, s: &[u8], at: usize, stop: u8) -> Number
+pub(crate) fn in_form(form: Form, s: &[u8], at: usize, stop: u8) -> Option<(i64, usize)>
     requires { at + 18 ≤ length s.now }
     ensures { FieldAt (read_as form) 18 s.now at stop result }
 {

@@ -5,8 +5,6 @@ ghost use Rattle.quick.specs.Stamps.{Point, Six, six_of, MicrosAt};
 ghost use Rattle.quick.specs.Words.{SizeAt};
 
 use crate::digits;
-use crate::digits::Sized;
-use forms::Size;
 
 // Anything but a point and six digits. Every byte is asked, with no way out before the last.
 fn no_micros(point: u8, a: u8, b: u8, c: u8, d: u8, e: u8, f: u8) -> bool
@@ -32,17 +30,17 @@ fn six(a: u8, b: u8, c: u8, d: u8, e: u8, f: u8) -> u64
     requires { Six a b c d e f }
     ensures { result ≡ six_of a b c d e f }
 {
-    digits::wide(a) * 100000
-        + digits::wide(b) * 10000
-        + digits::wide(c) * 1000
-        + digits::wide(d) * 100
-        + digits::wide(e) * 10
-        + digits::wide(f)
+    u64::from(a) * 100000
+        + u64::from(b) * 10000
+        + u64::from(c) * 1000
+        + u64::from(d) * 100
+        + u64::from(e) * 10
+        + u64::from(f)
         - 5333328
 }
 
 // "a point, six digits"
-fn micros(s: &[u8], at: usize) -> Size
+fn micros(s: &[u8], at: usize) -> Option<u64>
     requires { at + 7 ≤ length s.now }
     ensures { MicrosAt s.now at result }
 {
@@ -54,21 +52,17 @@ fn micros(s: &[u8], at: usize) -> Size
     let e = s[at + 5];
     let f = s[at + 6];
     if no_micros(point, a, b, c, d, e, f) {
-        return Size::Bad;
+        return None;
     }
-    Size::Of(six(a, b, c, d, e, f))
+    Some(six(a, b, c, d, e, f))
 }
 
 // "a whole part of 1 to 9 digits without a leading zero (a single 0 is good), a point, six digits"
-pub(crate) fn time_size(s: &[u8], at: usize) -> Sized
+pub(crate) fn time_size(s: &[u8], at: usize) -> Option<(u64, usize)>
     requires { at + 17 ≤ length s.now }
     ensures { SizeAt time_size 16 s.now at result }
 {
-    let Sized::Of(seconds, point) = digits::run(s, at) else {
-        return Sized::Doubt;
-    };
-    let Size::Of(rest) = micros(s, point) else {
-        return Sized::Doubt;
-    };
-    Sized::Of(seconds * 1000000 + rest, point + 7)
+    let (seconds, point) = digits::run(s, at)?;
+    let rest = micros(s, point)?;
+    Some((seconds * 1000000 + rest, point + 7))
 }

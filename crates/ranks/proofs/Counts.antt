@@ -1,9 +1,8 @@
 -- From one function to the next: what the slices hold when the steps are to be gone back, and afterwards.
 use Prim.Native.Nat.{ℕ}
 use mathlib.Core.Path.{◌≡◌, refl, sym, ◌∙◌}
-use mathlib.Core.Bool.{Bool, true, false, not, true≢false}
+use mathlib.Core.Bool.{Bool, true, false, true≢false}
 use mathlib.Core.List.{List, [], ◌∷◌}
-use borrow.Author.Tests.{not-true, not-false}
 use lib.ListN.{length}
 use Rattle.ranks.specs.Ranked.{rankable, RanksOf, RankedInto}
 use Rattle.ranks.specs.Inner.{Slices, Inverts, Seeded, Ready, SpreadFrom}
@@ -37,15 +36,15 @@ module _ {first second ranks : List ℕ} {ranks' queue' : List ℕ} {tail : ℕ}
 -- ---- by whether the slices fit
 
 pub slices : (first second ranks queue after receive : List ℕ) {told : Bool}
-    → told ≡ rankable (length ranks) (length first ∷ length second ∷ length queue ∷ length after ∷ length receive ∷ []) → not told ≡ false
+    → told ≡ rankable (length ranks) (length first ∷ length second ∷ length queue ∷ length after ∷ length receive ∷ []) → told ≡ true
     → Slices (length ranks) first second ranks queue after receive
-slices first second ranks queue after receive {told} e t =
-    let (few, a, b, c, d, f) = fitted (length ranks) _ _ _ _ _ (sym e ∙ not-false told t) in
+slices first second ranks queue after receive e t =
+    let (few, a, b, c, d, f) = fitted (length ranks) _ _ _ _ _ (sym e ∙ t) in
     record { few = few; all_first = a; all_second = b; all_ranks = refl; all_queue = c; all_after = d; all_receive = f }
 
 module _ {fits : Bool} {n : ℕ} {first second ranks ranks' : List ℕ} where
   pub fit : RanksOf n first second ranks ranks' → RankedInto fits n first second ranks ranks'
   fit ranked = record { counts = λ fit_is. ranked }
 
-  pub unfit : {told : Bool} → told ≡ fits → not told ≡ true → RankedInto fits n first second ranks ranks'
-  unfit {told} e t = record { counts = λ fit_is. absurd (true≢false (sym fit_is ∙ sym e ∙ not-true told t)) }
+  pub unfit : {told : Bool} → told ≡ fits → told ≡ false → RankedInto fits n first second ranks ranks'
+  unfit e t = record { counts = λ fit_is. absurd (true≢false (sym fit_is ∙ sym e ∙ t)) }

@@ -10,24 +10,23 @@ ghost use Rattle.std.specs.Prelude.{◌≡◌, [], ◌∷◌, length, set};
 ghost use Rattle.ranks.specs.Ranked.{rankable, RanksOf, RankedInto};
 ghost use Rattle.ranks.specs.Inner.{Few, Slices, Inverts};
 
+use spread::Steps;
+
 // Whether there are n of each, and not too many.
 fn fit(n: usize, first: usize, second: usize, queue: usize, after: usize, receive: usize) -> bool
     ensures { result ≡ rankable n (first ∷ second ∷ queue ∷ after ∷ receive ∷ []) }
 {
-    if store::TOO_MANY <= n {
-        return false;
-    }
-    engine::all_are(n, first, second, queue, after, receive)
+    n < store::TOO_MANY && engine::all_are(n, first, second, queue, after, receive)
 }
 
 // Puts a number into a place, where there is such a place.
 fn put(into: &mut [u32], at: usize, n: u32)
     ensures { into.new ≡ set into.old at n }
 {
-    if into.len() <= at {
-        return;
+    // by its index: of a place that `get_mut` lends, no proof learns what it holds afterwards
+    if at < into.len() {
+        into[at] = n;
     }
-    into[at] = n;
 }
 
 // Of each record the one whose step leads to it. A place that no step leads to holds what it held.
@@ -35,11 +34,8 @@ fn invert(table: &[u32], into: &mut [u32])
     requires { Few (length table.now) table.now into.old }
     ensures { Inverts table.now into.new }
 {
-    let mut i: usize = 0;
-    while i < table.len() {
-        let to = table[i] as usize;
-        put(into, to, i as u32);
-        i += 1;
+    for (i, to) in table.iter().enumerate() {
+        put(into, *to as usize, i as u32);
     }
 }
 
@@ -58,7 +54,13 @@ fn count(
     invert(first, after);
     invert(second, receive);
     let tail = seeds::seed(ranks, queue);
-    spread::spread(first, second, after, receive, ranks, queue, tail);
+    let steps = Steps {
+        first,
+        second,
+        after,
+        receive,
+    };
+    steps.spread(ranks, queue, tail);
 }
 
 // `first` and `second` are the steps of either kind; `ranks` has 0 for the records that have none, and comes back with the steps of each. The
@@ -73,7 +75,7 @@ pub fn ranks_into(
 )
     ensures { RankedInto (rankable (length ranks.old) (length first.now ∷ length second.now ∷ length queue.old ∷ length after.old ∷ length receive.old ∷ [])) (length ranks.old) first.now second.now ranks.old ranks.new }
 {
-    if !fit(
+    if fit(
         ranks.len(),
         first.len(),
         second.len(),
@@ -81,7 +83,6 @@ pub fn ranks_into(
         after.len(),
         receive.len(),
     ) {
-        return;
+        count(first, second, ranks, queue, after, receive);
     }
-    count(first, second, ranks, queue, after, receive);
 }

@@ -24,10 +24,8 @@ pub(crate) fn seed(ranks: &mut [u32], queue: &mut [u32]) -> usize
 {
     let none = ranks.len() as u32;
     let mut tail: usize = 0;
-    let mut i: usize = 0;
-    while i < ranks.len() {
+    for i in 0..ranks.len() {
         tail = sow(i, none, ranks, queue, tail);
-        i += 1;
     }
     tail
 }

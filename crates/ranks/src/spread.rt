@@ -16,6 +16,7 @@ fn mark(
     requires { length table.now ≡ length ranks.old }
     ensures { Marked table.now none j i steps ranks.old queue.old tail result ranks.new queue.new }
 {
+    // a return for each case of `Marked`, which is what the queue's proof goes by
     let place = i as usize;
     if table.len() <= place {
         return tail;
@@ -34,48 +35,65 @@ fn mark(
     tail + 1
 }
 
-// One turn: the steps of either kind that lead to the record at the queue's head.
-fn turn(
-    first: &[u32],
-    second: &[u32],
-    after: &[u32],
-    receive: &[u32],
-    none: u32,
-    head: usize,
-    ranks: &mut [u32],
-    queue: &mut [u32],
-    tail: usize,
-) -> usize
-    requires tables { Tables none first.now second.now after.now receive.now ranks.old }
-    requires head { Head none head ranks.old queue.old }
-    ensures { Turned first.now second.now after.now receive.now none head ranks.old queue.old tail result ranks.new queue.new }
-{
-    let j = queue[head];
-    let at = j as usize;
-    let steps = ranks[at] + 1;
-    let more = mark(first, none, j, after[at], steps, ranks, queue, tail);
-    mark(second, none, j, receive[at], steps, ranks, queue, more)
+// The steps of either kind, and turned round: of each record the one whose step of the first kind leads to it, and of the second.
+#[derive(Clone, Copy)]
+pub(crate) struct Steps<'a> {
+    pub(crate) first: &'a [u32],
+    pub(crate) second: &'a [u32],
+    pub(crate) after: &'a [u32],
+    pub(crate) receive: &'a [u32],
 }
 
-pub(crate) fn spread(
-    first: &[u32],
-    second: &[u32],
-    after: &[u32],
-    receive: &[u32],
-    ranks: &mut [u32],
-    queue: &mut [u32],
-    seeds: usize,
-)
-    requires { Ready (length ranks.old) first.now second.now after.now receive.now ranks.old queue.old seeds }
-    ensures { SpreadFrom (length ranks.old) first.now second.now ranks.old queue.old seeds ranks.new }
-{
-    let none = ranks.len() as u32;
-    let mut tail = seeds;
-    let mut head: usize = 0;
-    while head < tail {
-        tail = turn(
-            first, second, after, receive, none, head, ranks, queue, tail,
+impl Steps<'_> {
+    // One turn: the steps of either kind that lead to the record at the queue's head.
+    fn turn(
+        self,
+        none: u32,
+        head: usize,
+        ranks: &mut [u32],
+        queue: &mut [u32],
+        tail: usize,
+    ) -> usize
+        requires tables { Tables none self.first.now self.second.now self.after.now self.receive.now ranks.old }
+        requires head { Head none head ranks.old queue.old }
+        ensures { Turned self.entry.first.now self.entry.second.now self.entry.after.now self.entry.receive.now none head ranks.old queue.old tail result ranks.new queue.new }
+    {
+        let j = queue[head];
+        let at = j as usize;
+        let steps = ranks[at] + 1;
+        let more = mark(
+            self.first,
+            none,
+            j,
+            self.after[at],
+            steps,
+            ranks,
+            queue,
+            tail,
         );
-        head += 1;
+        mark(
+            self.second,
+            none,
+            j,
+            self.receive[at],
+            steps,
+            ranks,
+            queue,
+            more,
+        )
+    }
+
+    pub(crate) fn spread(self, ranks: &mut [u32], queue: &mut [u32], seeds: usize)
+        requires { Ready (length ranks.old) self.first.now self.second.now self.after.now self.receive.now ranks.old queue.old seeds }
+        ensures { SpreadFrom (length ranks.old) self.entry.first.now self.entry.second.now ranks.old queue.old seeds ranks.new }
+    {
+        let none = ranks.len() as u32;
+        let mut tail = seeds;
+        let mut head: usize = 0;
+        // no counting: each turn may put records behind the tail
+        while head < tail {
+            tail = self.turn(none, head, ranks, queue, tail);
+            head += 1;
+        }
     }
 }

@@ -1,4 +1,5 @@
--- 19 behind 17: the first places of the slices are room for the comparison.
+-- 19: the first places of the slices are room for the comparison.
+use Rattle.std.specs.Prelude.{Result, Ok}
 use Prim.Native.Nat.{ℕ, zero, suc, ◌<◌}
 use native.Mathlib.Omega.{arith}
 use mathlib.Core.Path.{◌≡◌, refl, sym, ◌∙◌}
@@ -11,12 +12,11 @@ use Rattle.paper.specs.Reading.{lines_of}
 use Rattle.paper.specs.Statistics.{compared_from, statistics_of}
 use Rattle.paper.specs.declared.Asked.{Asked}
 use Rattle.paper.specs.declared.Entry.{Entry}
-use Rattle.paper.specs.declared.Stop.{Stop}
-use Rattle.paper.specs.declared.Stop.TheVariants.{End, At}
 use Rattle.store.specs.Layout.{entries_in, Small, AllSmall}
 use Rattle.statistics.specs.Ready.{Ready}
-use Rattle.reach.specs.Lines.{Comparable, compared}
+use Rattle.reach.specs.Lines.{Comparable}
 use Rattle.reach.proofs.Settling.{part_long, first}
+use Rattle.paper.specs.declared.Refusal.{Refusal}
 
 -- each of the entries that the store holds whole
 pub small_at : (es : List Entry) → AllSmall es → (k : ℕ) → k < length es → Small (entry_at es k)
@@ -42,17 +42,15 @@ module _ {trace store : List ℕ} {listed : ℕ} {before latency : List ℕ} {ti
         holding = rw all c.holding;
       }
 
-  -- the comparison is on, and it is its turn
-  pub compares : (asked : Asked) → asked.statistics ≡ 1 → {levelled r : Stop} → levelled ≡ End
+  -- the comparison is on
+  pub compares : (asked : Asked) → asked.statistics ≡ 1 → {r : Result Unit Refusal}
       → let es = entries_in store (length (first listed latency)) in
       (Ready trace store (length (first listed latency)) (length (first listed before)) (length (first listed times)) (length (first listed spare)) → r ≡ compared_from (lines_of trace) es 0 es)
-      → r ≡ compared asked trace (entries_in store listed) levelled
-  unfolding compared statistics_of
-  compares asked on e is = rw (e, eq-eqb asked.statistics 1 on) (rw all at (is parts_ready))
+      → r ≡ statistics_of asked trace (entries_in store listed)
+  unfolding statistics_of
+  compares asked on is = rw (eq-eqb asked.statistics 1 on) (rw all at (is parts_ready))
 
 -- it is off
-pub not_compared : (asked : Asked) → (asked.statistics ≡ 1 → ⊥) → (trace : List ℕ) (es : List Entry) (levelled : Stop)
-    → levelled ≡ compared asked trace es levelled
-unfolding compared statistics_of
-not_compared asked off trace es (At fault site) = refl
-not_compared asked off trace es End = rw (ne_eqb asked.statistics 1 off)
+pub not_compared : (asked : Asked) → (asked.statistics ≡ 1 → ⊥) → (trace : List ℕ) (es : List Entry) → Ok tt ≡ statistics_of asked trace es
+unfolding statistics_of
+not_compared asked off trace es = rw (ne_eqb asked.statistics 1 off)

@@ -1,4 +1,5 @@
 -- Slices that fit, and slices that do not.
+use Rattle.std.specs.Prelude.{Result, Err}
 use Prim.Native.Nat.{ℕ, ◌≤◌}
 use native.Mathlib.Omega.{arith}
 use mathlib.Core.Path.{◌≡◌, refl, sym, ◌∙◌}
@@ -16,10 +17,10 @@ use Rattle.store.specs.Layout.{capacity}
 use Rattle.engine.specs.Promise.{all_are}
 use Rattle.engine.proofs.Lengths.{first_equal, all_equal}
 use Rattle.forms.proofs.Tests.{both}
-use Rattle.reach.specs.declared.Reached.{Reached}
-use Rattle.reach.specs.declared.Reached.TheVariants.{Misfit}
 use Rattle.reach.specs.Reach.{fits, reaches, ReachedBy}
 use Rattle.reach.specs.Lines.{Sized, from_lines}
+use Rattle.reach.specs.declared.Unreached.{Unreached}
+use Rattle.answer.specs.declared.Counts.{Counts}
 
 -- ---- the test
 
@@ -47,12 +48,12 @@ module _ (g : Given) (store sends before gap latency : List ℕ) (times spare : 
   is_told : fit ≡ told
   is_told = rw (← holds) (sym tells)
 
-  pub unfit : told ≡ false → (store' sends' : List ℕ) (times' : List ℤ) → ReachedBy fit g Misfit store' sends' times'
+  pub unfit : told ≡ false → (store' sends' : List ℕ) (times' : List ℤ) → ReachedBy fit g (Err Unreached.Misfit) store' sends' times'
   unfit e store' sends' times' =
       rw (is_told, e) (record { answers = λ z. absurd (let q : ◌≡◌ {A = ℕ} 0 1 = cc in omega arith); misfits = λ z. refl })
 
   module _ (fitted : told ≡ true) where
-    pub answered : (store' sends' : List ℕ) (times' : List ℤ) (r : Reached) → reaches g.trace (reach g) r store' sends' times'
+    pub answered : (store' sends' : List ℕ) (times' : List ℤ) (r : Result Counts Unreached) → reaches g.trace (reach g) r store' sends' times'
         → ReachedBy fit g r store' sends' times'
     answered store' sends' times' r says =
         rw (is_told, fitted) (record { answers = λ z. says; misfits = λ z. absurd (let q : ◌≡◌ {A = ℕ} 0 1 = cc in omega arith) })
@@ -80,7 +81,7 @@ module _ (g : Given) (store sends before gap latency : List ℕ) (times spare : 
 
     -- the lines read from the state that 1 to 4 leave
     pub read_on : (choice : Choice) → reach g ≡ on_read g choice (read_of choice (most g) g.trace) (read_of choice (most g) g.trace).stop
-        → (store' sends' : List ℕ) (times' : List ℤ) (r : Reached)
+        → (store' sends' : List ℕ) (times' : List ℤ) (r : Result Counts Unreached)
         → from_lines g.trace g.latencies g.asked choice (read_of choice (capacity store) g.trace) r store' sends' times'
         → ReachedBy fit g r store' sends' times'
     unfolding from_lines

@@ -1,8 +1,8 @@
 -- What a caller learns of a call that found its times.
+use Rattle.std.specs.Prelude.{Option, Result, Some, None, Ok, Err}
 use Prim.Native.Nat.{ℕ, ◌≤◌}
 use mathlib.Core.Path.{◌≡◌, refl}
 use mathlib.Core.Bool.{Bool, true, false, cond}
-use mathlib.Core.Option.{Option, none, some}
 use native.Mathlib.Omega.{arith}
 use lib.ListN.{length}
 use lib.Dec.{leb}
@@ -17,18 +17,17 @@ use Rattle.clearance.proofs.Clearing.{places_right, share_low}
 use Rattle.paper.specs.declared.Choice.{Choice}
 use Rattle.paper.specs.declared.Fault.{Fault}
 use Rattle.paper.specs.declared.Site.{Site}
-use Rattle.paper.specs.declared.Stop.{Stop}
-use Rattle.paper.specs.declared.Stop.TheVariants.{End, At}
+use Rattle.paper.specs.declared.Refusal.{Refusal}
 
 -- the checks that it passed, and what was found
 pub record Means (g : Given) (f : Found) : Type 0 where
   pub places : g.places ≡ most g
   pub share : g.asked.share ≤ 1000
   pub reading : f.reading ≡ read_of f.choice (most g) g.trace
-  pub whole : f.reading.stop ≡ End
-  pub levels : levels_of g.asked f.reading.entries ≡ End
-  pub statistics : statistics_of g.asked g.trace f.reading.entries ≡ End
-  pub matches : matched_of f.reading.entries ≡ End
+  pub whole : f.reading.stop ≡ Ok tt
+  pub levels : levels_of g.asked f.reading.entries ≡ Ok tt
+  pub statistics : statistics_of g.asked g.trace f.reading.entries ≡ Ok tt
+  pub matches : matched_of f.reading.entries ≡ Ok tt
   pub settles : settle (waits_of g.asked.share g.latencies f.reading.entries) ≡ settled f.rounds f.times
 
 -- a stop is no find
@@ -48,11 +47,11 @@ module _ (g : Given) (f : Found) where
       (rw q, rw q)
 
   module _ (sizes : right_sizes g ≡ true) (choice : Choice) where
-    on_matched_lem : (r choice).stop ≡ End → levels_of g.asked (r choice).entries ≡ End → statistics_of g.asked g.trace (r choice).entries ≡ End
-        → (x : Stop) → matched_of (r choice).entries ≡ x → on_matched g choice (r choice) x ≡ found f → Means g f
+    on_matched_lem : (r choice).stop ≡ Ok tt → levels_of g.asked (r choice).entries ≡ Ok tt → statistics_of g.asked g.trace (r choice).entries ≡ Ok tt
+        → (x : Result Unit Refusal) → matched_of (r choice).entries ≡ x → on_matched g choice (r choice) x ≡ found f → Means g f
     unfolding on_matched
-    on_matched_lem whole levels statistics (At fault site) p e = never e
-    on_matched_lem whole levels statistics End p e =
+    on_matched_lem whole levels statistics (Err refusal) p e = never e
+    on_matched_lem whole levels statistics (Ok tt) p e =
         let (is, settles) = on_settled_lem choice (r choice) (settle (waits_of g.asked.share g.latencies (r choice).entries)) e in
         rw is
         (record {
@@ -66,26 +65,26 @@ module _ (g : Given) (f : Found) where
           settles = settles;
         })
 
-    on_statistics_lem : (r choice).stop ≡ End → levels_of g.asked (r choice).entries ≡ End
-        → (x : Stop) → statistics_of g.asked g.trace (r choice).entries ≡ x → on_statistics g choice (r choice) x ≡ found f → Means g f
+    on_statistics_lem : (r choice).stop ≡ Ok tt → levels_of g.asked (r choice).entries ≡ Ok tt
+        → (x : Result Unit Refusal) → statistics_of g.asked g.trace (r choice).entries ≡ x → on_statistics g choice (r choice) x ≡ found f → Means g f
     unfolding on_statistics
-    on_statistics_lem whole levels (At fault site) p e = never e
-    on_statistics_lem whole levels End p e = on_matched_lem whole levels p (matched_of (r choice).entries) refl e
+    on_statistics_lem whole levels (Err refusal) p e = never e
+    on_statistics_lem whole levels (Ok tt) p e = on_matched_lem whole levels p (matched_of (r choice).entries) refl e
 
-    on_levels_lem : (r choice).stop ≡ End → (x : Stop) → levels_of g.asked (r choice).entries ≡ x → on_levels g choice (r choice) x ≡ found f → Means g f
+    on_levels_lem : (r choice).stop ≡ Ok tt → (x : Result Unit Refusal) → levels_of g.asked (r choice).entries ≡ x → on_levels g choice (r choice) x ≡ found f → Means g f
     unfolding on_levels
-    on_levels_lem whole (At fault site) p e = never e
-    on_levels_lem whole End p e = on_statistics_lem whole p (statistics_of g.asked g.trace (r choice).entries) refl e
+    on_levels_lem whole (Err refusal) p e = never e
+    on_levels_lem whole (Ok tt) p e = on_statistics_lem whole p (statistics_of g.asked g.trace (r choice).entries) refl e
 
-    on_read_lem : (x : Stop) → (r choice).stop ≡ x → on_read g choice (r choice) x ≡ found f → Means g f
+    on_read_lem : (x : Result Unit Refusal) → (r choice).stop ≡ x → on_read g choice (r choice) x ≡ found f → Means g f
     unfolding on_read
-    on_read_lem (At fault site) p e = never e
-    on_read_lem End p e = on_levels_lem p (levels_of g.asked (r choice).entries) refl e
+    on_read_lem (Err refusal) p e = never e
+    on_read_lem (Ok tt) p e = on_levels_lem p (levels_of g.asked (r choice).entries) refl e
 
   on_choice_lem : (h : Option Choice) → on_choice g h ≡ found f → Means g f
   unfolding on_choice
-  on_choice_lem none e = never e
-  on_choice_lem (some choice) e = go (right_sizes g) (low_latencies g.latencies) (leb (length g.trace) longest) refl e
+  on_choice_lem None e = never e
+  on_choice_lem (Some choice) e = go (right_sizes g) (low_latencies g.latencies) (leb (length g.trace) longest) refl e
     where
       go : (a b c : Bool) → right_sizes g ≡ a
           → cond a

@@ -1,20 +1,19 @@
 -- The lines read into the store, and the times of the records there: what the code's answers come to.
+use Rattle.std.specs.Prelude.{Result, Ok, Err}
 use Prim.Native.Nat.{ℕ, ◌≤◌, ◌<◌, ◌^◌}
 use mathlib.Core.Path.{◌≡◌, refl, sym, ap, ◌∙◌}
 use mathlib.Core.List.{List}
 use native.Mathlib.Omega.{arith}
 use lib.ListN.{length, take}
 use lib.IntN.{ℤ}
-use Rattle.paper.specs.Answer.{Given, on_read, on_levels, on_statistics, on_matched, on_settled}
+use Rattle.paper.specs.Levels.{levels_of}
+use Rattle.paper.specs.Statistics.{statistics_of}
+use Rattle.paper.specs.Answer.{Given, Reached, on_read, on_levels, on_statistics, on_matched, on_settled}
 use Rattle.paper.specs.Matching.{entry_at, matched_of}
 use Rattle.paper.specs.Reading.{Reading, read_of}
 use Rattle.paper.specs.declared.Asked.{Asked}
 use Rattle.paper.specs.declared.Choice.{Choice}
 use Rattle.paper.specs.declared.Entry.{Entry}
-use Rattle.paper.specs.declared.Fault.{Fault}
-use Rattle.paper.specs.declared.Site.{Site}
-use Rattle.paper.specs.declared.Stop.{Stop}
-use Rattle.paper.specs.declared.Stop.TheVariants.{End, At}
 use Rattle.reading.specs.Starts.{start_of}
 use Rattle.reading.specs.Tidy.{TidyRecord}
 use Rattle.reading.proofs.Starts.{start_within}
@@ -26,13 +25,14 @@ use Rattle.trace.proofs.Entries.{entries_small}
 use Rattle.trace.proofs.Into.{stop_is, listed_is, passed_is, few_listed, same_capacity, entries_are}
 use Rattle.waits.proofs.Gaps.{gaps_narrow}
 use Rattle.solve.specs.Outcome.{Keepable, solved_by}
-use Rattle.solve.specs.declared.Solved.{Solved}
-use Rattle.reach.specs.declared.Reached.{Reached}
-use Rattle.reach.specs.declared.Reached.TheVariants.{Refused}
 use Rattle.clearance.specs.Clearance.{given_of}
 use Rattle.reach.specs.Reach.{reaches}
-use Rattle.reach.specs.Lines.{Sized, as_reached, SettledBy, levelled, Comparable, compared, from_lines}
+use Rattle.reach.specs.Lines.{Sized, as_reached, SettledBy, Comparable, from_lines}
 use Rattle.reach.proofs.Comparing.{small_at}
+use Rattle.paper.specs.declared.Refusal.{Refusal}
+use Rattle.solve.specs.declared.Unsolved.{Unsolved}
+use Rattle.reach.specs.declared.Unreached.{Unreached}
+use Rattle.answer.specs.declared.Counts.{Counts}
 
 -- a trace that was read into a store
 module _ (choice : Choice) (trace store₀ : List ℕ) (r : Read) (store : List ℕ) (into : ReadInto choice trace store₀ r store) where
@@ -102,10 +102,10 @@ module _ (choice : Choice) (trace store₀ : List ℕ) (r : Read) (store : List 
 
     -- "then the first receive in file order that calls for 13 or 14 ..; then 15"
     module _ (latencies sends : List ℕ) (times : List ℤ) (g : Given) (table : g.latencies ≡ latencies) where
-      solved_reaches : (x : Solved) → solved_by g.asked.share latencies (entries_in store r.listed) x (take r.listed sends) (take r.listed times)
+      solved_reaches : (x : Result (ℕ × ℕ × ℕ) Unsolved) → solved_by g.asked.share latencies (entries_in store r.listed) x (take r.listed sends) (take r.listed times)
           → reaches trace (on_matched g choice whole (matched_of whole.entries)) (as_reached r.listed r.passed x) store sends times
       unfolding reaches as_reached solved_by on_matched on_settled
-      solved_reaches (Solved.Times matched unreceived rounds) by =
+      solved_reaches (Ok (matched, unreceived, rounds)) by =
           let s = rw (entries_are into short) at by in (
             record { choice = choice; reading = whole; rounds = rounds; times = take r.listed times },
             rw (s.matches, table, s.settles),
@@ -121,40 +121,55 @@ module _ (choice : Choice) (trace store₀ : List ℕ) (r : Read) (store : List 
               new = refl;
             },
           )
-      solved_reaches (Solved.Refused fault site) by = let s = rw (entries_are into short) at by in rw s
-      solved_reaches Solved.Impossible by = let s = rw (entries_are into short) at by in rw (s.0, table, s.1)
-      solved_reaches Solved.Misfit by = by
+      solved_reaches (Err (Unsolved.Refused refusal)) by = let s = rw (entries_are into short) at by in rw s
+      solved_reaches (Err Unsolved.Impossible) by = let s = rw (entries_are into short) at by in rw (s.0, table, s.1)
+      solved_reaches (Err Unsolved.Misfit) by = by
 
     -- "then line by line, the first bad line deciding"; "After the lines are read, and before 13, refuse with 17"; "after the line checks and
     -- 17, before 13", 19
-    module _ (latencies : List ℕ) (asked : Asked) {behind stop : Stop} (levels : behind ≡ levelled asked (entries_in store r.listed) r.stop)
-        (statistics : stop ≡ compared asked trace (entries_in store r.listed) behind) where
-      onward : (places : ℕ)
-          → let g = given_of trace latencies asked places in on_read g choice whole whole.stop ≡ on_statistics g choice whole stop
-      unfolding on_read on_levels on_statistics levelled compared
-      onward places =
-          let g = given_of trace latencies asked places in
-          ap (on_read g choice whole) (sym (stop_is into)) ∙ go r.stop ∙ ap (on_levels g choice whole) (sym (rw (entries_are into short) at levels))
-          ∙ on behind ∙ ap (on_statistics g choice whole) (sym (rw (entries_are into short) at statistics))
-        where
-          go : (s : Stop) → let g = given_of trace latencies asked places in on_read g choice whole s ≡ on_levels g choice whole (levelled asked whole.entries s)
-          go (At fault site) = refl
-          go End = refl
+    module _ (latencies : List ℕ) (asked : Asked) where
+      abbrev given : ℕ → Given
+      given places = given_of trace latencies asked places
 
-          on : (s : Stop)
-              → let g = given_of trace latencies asked places in on_levels g choice whole s ≡ on_statistics g choice whole (compared asked trace whole.entries s)
-          on (At fault site) = refl
-          on End = refl
+      -- how far the paper's call comes
+      abbrev comes : ℕ → Reached
+      comes places = on_read (given places) choice whole whole.stop
 
-      pub line_refused : (fault : Fault) (site : Site) → stop ≡ At fault site → (sends : List ℕ) (times : List ℤ)
-          → from_lines trace latencies asked choice whole (Refused fault site) store sends times
-      unfolding from_lines reaches on_statistics
-      line_refused fault site e sends times places = onward places ∙ rw e
+      abbrev From : Result Counts Unreached → List ℕ → List ℤ → Type 0
+      From answer sends times = from_lines trace latencies asked choice whole answer store sends times
 
-      pub lines_read : stop ≡ End → {x : Reached} {sends : List ℕ} {times : List ℤ}
-          → SettledBy asked.share latencies (entries_in store r.listed) r.listed r.passed x sends times
-          → from_lines trace latencies asked choice whole x store sends times
-      unfolding from_lines on_statistics
-      lines_read e {x} {sends} {times} s places =
-          let g = given_of trace latencies asked places in
-          rw (onward places, e, s.is) (solved_reaches latencies sends times g refl s.answer s.solves)
+      pub line_refused : (refusal : Refusal) → r.stop ≡ Err refusal → (sends : List ℕ) (times : List ℤ) → From (Err (Unreached.Refused refusal)) sends times
+      unfolding from_lines reaches on_read
+      line_refused refusal e sends times places = ap (on_read (given places) choice whole) (sym (stop_is into) ∙ e)
+
+      module _ (good : r.stop ≡ Ok tt) where
+        past_lines : (places : ℕ) → comes places ≡ on_levels (given places) choice whole (levels_of asked (entries_in store r.listed))
+        unfolding on_read
+        past_lines places =
+            ap (on_read (given places) choice whole) (sym (stop_is into) ∙ good)
+            ∙ ap (λ (es : List Entry). on_levels (given places) choice whole (levels_of asked es)) (sym (entries_are into short))
+
+        pub levels_refused : (refusal : Refusal) → Err refusal ≡ levels_of asked (entries_in store r.listed) → (sends : List ℕ) (times : List ℤ)
+            → From (Err (Unreached.Refused refusal)) sends times
+        unfolding from_lines reaches on_levels
+        levels_refused refusal e sends times places = past_lines places ∙ ap (on_levels (given places) choice whole) (sym e)
+
+        module _ (levels : Ok tt ≡ levels_of asked (entries_in store r.listed)) where
+          past_levels : (places : ℕ) → comes places ≡ on_statistics (given places) choice whole (statistics_of asked trace (entries_in store r.listed))
+          unfolding on_levels
+          past_levels places =
+              past_lines places ∙ ap (on_levels (given places) choice whole) (sym levels)
+              ∙ ap (λ (es : List Entry). on_statistics (given places) choice whole (statistics_of asked trace es)) (sym (entries_are into short))
+
+          pub statistics_refused : (refusal : Refusal) → Err refusal ≡ statistics_of asked trace (entries_in store r.listed) → (sends : List ℕ) (times : List ℤ)
+              → From (Err (Unreached.Refused refusal)) sends times
+          unfolding from_lines reaches on_statistics
+          statistics_refused refusal e sends times places = past_levels places ∙ ap (on_statistics (given places) choice whole) (sym e)
+
+          pub lines_read : Ok tt ≡ statistics_of asked trace (entries_in store r.listed) → {x : Result Counts Unreached} {sends : List ℕ} {times : List ℤ}
+              → SettledBy asked.share latencies (entries_in store r.listed) r.listed r.passed x sends times
+              → From x sends times
+          unfolding from_lines on_statistics
+          lines_read statistics {x} {sends} {times} s places =
+              rw (past_levels places ∙ ap (on_statistics (given places) choice whole) (sym statistics), s.is)
+              (solved_reaches latencies sends times (given places) refl s.answer s.solves)

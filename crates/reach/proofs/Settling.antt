@@ -1,5 +1,6 @@
 -- The first places of the slices lent for the records that were read: they fit, so that there is an answer, and what it leaves in them
 -- stands in front of the slices.
+use Rattle.std.specs.Prelude.{Result}
 use Prim.Native.Nat.{ℕ, ◌-◌, ◌≤◌}
 use native.Mathlib.Nat.{sub-zero}
 use native.Mathlib.Omega.{arith}
@@ -13,10 +14,11 @@ use borrow.Author.Tests.{lt-ltb, le-leb, eq-eqb}
 use Rattle.paper.specs.Statistics.{summed}
 use Rattle.store.specs.Layout.{too_many, capacity, entries_in}
 use Rattle.engine.specs.Promise.{all_are}
-use Rattle.solve.specs.declared.Solved.{Solved}
 use Rattle.solve.specs.Outcome.{fitting, Keepable, SolvedInto}
-use Rattle.reach.specs.declared.Reached.{Reached}
 use Rattle.reach.specs.Lines.{Sized, as_reached, SettledBy}
+use Rattle.solve.specs.declared.Unsolved.{Unsolved}
+use Rattle.reach.specs.declared.Unreached.{Unreached}
+use Rattle.answer.specs.declared.Counts.{Counts}
 
 -- the first places of a slice of n
 pub part_long : {A : Type 0} (l : List A) {n listed : ℕ} → length l ≡ n → listed ≤ n → length (take (listed - 0) l) ≡ listed
@@ -26,7 +28,7 @@ abbrev pub first : {A : Type 0} → ℕ → List A → List A
 first listed l = take (listed - 0) l
 
 module _ (share : ℕ) (latencies store : List ℕ) (listed passed : ℕ) {n : ℕ} {sends before gap latency : List ℕ} {times spare : List ℤ}
-    (sized : Sized n sends before gap latency times spare) (few : listed ≤ n) (room : listed ≤ capacity store) (r : Solved) (sends' : List ℕ) (times' : List ℤ)
+    (sized : Sized n sends before gap latency times spare) (few : listed ≤ n) (room : listed ≤ capacity store) (r : Result (ℕ × ℕ × ℕ) Unsolved) (sends' : List ℕ) (times' : List ℤ)
     (into : SolvedInto
     (fitting (length (first listed times)) (capacity store)
     (length (first listed sends) ∷ length (first listed before) ∷ length (first listed gap) ∷ length (first listed latency) ∷ length (first listed spare) ∷ []))
@@ -54,7 +56,7 @@ module _ (share : ℕ) (latencies store : List ℕ) (listed passed : ℕ) {n : �
         eq-eqb listed listed refl,
       )
 
-  pub settled : Keepable share (entries_in store listed) → (more : List ℕ) (later : List ℤ) (x : Reached) → x ≡ as_reached listed passed r
+  pub settled : Keepable share (entries_in store listed) → (more : List ℕ) (later : List ℤ) (x : Result Counts Unreached) → x ≡ as_reached listed passed r
       → SettledBy share latencies (entries_in store listed) listed passed x (sends' ++ more) (times' ++ later)
   settled keep more later x e =
       let solves = rw many at (into.answers fits (rw many keep)) in

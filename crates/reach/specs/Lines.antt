@@ -1,24 +1,21 @@
 -- What the functions behind 1 to 4 have in hand, and what they come to. Of what the caller named the levels, the statistics and the share are
 -- still asked, and how many times are lent is not.
-use Rattle.std.specs.Prelude.{ℕ, ◌≤◌, ◌≡◌, List, length, take, ℤ}
+use Rattle.std.specs.Prelude.{ℕ, ◌≤◌, ◌≡◌, List, length, take, ℤ, Result, Ok, Err}
 use Rattle.paper.specs.Answer.{on_read}
 use Rattle.paper.specs.Columns.{nowhere}
-use Rattle.paper.specs.Levels.{levels_of}
 use Rattle.paper.specs.Reading.{Reading}
-use Rattle.paper.specs.Statistics.{summed, statistics_of}
+use Rattle.paper.specs.Statistics.{summed}
 use Rattle.paper.specs.declared.Asked.{Asked}
 use Rattle.paper.specs.declared.Choice.{Choice}
 use Rattle.paper.specs.declared.Entry.{Entry}
-use Rattle.paper.specs.declared.Fault.TheVariants as Fault
-use Rattle.paper.specs.declared.Stop.{Stop}
-use Rattle.paper.specs.declared.Stop.TheVariants.{End, At}
-use Rattle.solve.specs.declared.Solved.{Solved}
+use Rattle.paper.specs.declared.Fault.{Fault}
 use Rattle.solve.specs.Outcome.{solved_by}
 use Rattle.statistics.specs.Ready.{Holding}
-use Rattle.reach.specs.declared.Reached.{Reached}
-use Rattle.reach.specs.declared.Reached.TheVariants.{Times, Refused, Misfit}
 use Rattle.clearance.specs.Clearance.{given_of}
 use Rattle.reach.specs.Reach.{reaches}
+use Rattle.solve.specs.declared.Unsolved.{Unsolved}
+use Rattle.reach.specs.declared.Unreached.{Unreached}
+use Rattle.answer.specs.declared.Counts.{Counts}
 
 -- slices for n records each, so few that their times are summed; a place is then a number of 32 bits
 pub record Sized (n : ℕ) (sends before gap latency : List ℕ) (times spare : List ℤ) : Type 0 where
@@ -32,25 +29,28 @@ pub record Sized (n : ℕ) (sends before gap latency : List ℕ) (times spare : 
 
 -- ---- from the records on
 
--- an answer to the records, told as how far the call comes
-unfoldable pub as_reached : ℕ → ℕ → Solved → Reached
-as_reached listed passed (Solved.Times matched unreceived rounds) =
-    Times (record { listed = listed; passed = passed; matched = matched; unreceived = unreceived; rounds = rounds })
-as_reached listed passed (Solved.Refused fault site) = Refused fault site
-as_reached listed passed Solved.Impossible = Refused Fault.NoTimes nowhere
-as_reached listed passed Solved.Misfit = Misfit
+-- a fault that stands at no place
+abbrev pub fault_as : Fault → Unreached
+fault_as fault = Unreached.Refused (record { fault = fault; site = nowhere })
 
-pub record SettledBy (share : ℕ) (latencies : List ℕ) (es : List Entry) (listed passed : ℕ) (r : Reached) (sends : List ℕ) (times : List ℤ) : Type 0 where
-  pub answer : Solved
+-- why there are no times, told as how far the call comes
+abbrev pub unsolved_as : Unsolved → Unreached
+unsolved_as (Unsolved.Refused refusal) = Unreached.Refused refusal
+unsolved_as Unsolved.Impossible = fault_as Fault.NoTimes
+unsolved_as Unsolved.Misfit = Unreached.Misfit
+
+-- an answer to the records, told as how far the call comes
+unfoldable pub as_reached : ℕ → ℕ → Result (ℕ × ℕ × ℕ) Unsolved → Result Counts Unreached
+as_reached listed passed (Ok (matched, unreceived, rounds)) =
+    Ok (record { listed = listed; passed = passed; matched = matched; unreceived = unreceived; rounds = rounds })
+as_reached listed passed (Err unsolved) = Err (unsolved_as unsolved)
+
+pub record SettledBy (share : ℕ) (latencies : List ℕ) (es : List Entry) (listed passed : ℕ) (r : Result Counts Unreached) (sends : List ℕ) (times : List ℤ) : Type 0 where
+  pub answer : Result (ℕ × ℕ × ℕ) Unsolved
   pub is : r ≡ as_reached listed passed answer
   pub solves : solved_by share latencies es answer (take listed sends) (take listed times)
 
 -- ---- from the lines on
-
--- where the lines stop, or else 17
-unfoldable pub levelled : Asked → List Entry → Stop → Stop
-levelled asked es (At fault site) = At fault site
-levelled asked es End = levels_of asked es
 
 -- the records beside the trace that they were read from, and slices with a place for each
 pub record Comparable (trace store : List ℕ) (listed : ℕ) (before latency : List ℕ) (times spare : List ℤ) : Type 0 where
@@ -61,12 +61,7 @@ pub record Comparable (trace store : List ℕ) (listed : ℕ) (before latency : 
   pub all_spare : length spare ≡ length before
   pub holding : Holding trace store listed
 
--- where the lines or 17 stop, or else 19
-unfoldable pub compared : Asked → List ℕ → List Entry → Stop → Stop
-compared asked trace es (At fault site) = At fault site
-compared asked trace es End = statistics_of asked trace es
-
-unfoldable pub from_lines : (trace latencies : List ℕ) → Asked → Choice → Reading → Reached → (store sends : List ℕ) → List ℤ → Type 0
+unfoldable pub from_lines : (trace latencies : List ℕ) → Asked → Choice → Reading → Result Counts Unreached → (store sends : List ℕ) → List ℤ → Type 0
 from_lines trace latencies asked choice r answer store sends times =
     (places : ℕ)
     → reaches trace (on_read (given_of trace latencies asked places) choice r r.stop) answer store sends times

@@ -1,5 +1,5 @@
 -- How far a call comes, told by the code's answer and what it leaves in the slices.
-use Rattle.std.specs.Prelude.{ℕ, ◌<◌, ◌≡◌, List, Bool, true, false, ◌&&◌, length, take, ℤ, eqb}
+use Rattle.std.specs.Prelude.{ℕ, ◌<◌, ◌≡◌, List, Bool, true, false, ◌&&◌, length, take, ℤ, eqb, Result, Ok, Err}
 use Rattle.paper.specs.Answer as paper
 use Rattle.paper.specs.Answer.{Given, Found, stopped, found, reach}
 use Rattle.paper.specs.Matching.{entry_at, matched_count, unreceived_count}
@@ -8,8 +8,7 @@ use Rattle.store.specs.Layout.{entries_in, start_from}
 use Rattle.chains.specs.Places.{places_of}
 use Rattle.engine.specs.Promise.{all_are}
 use Rattle.answer.specs.declared.Counts.{Counts}
-use Rattle.reach.specs.declared.Reached.{Reached}
-use Rattle.reach.specs.declared.Reached.TheVariants.{Times, Refused, Misfit}
+use Rattle.reach.specs.declared.Unreached.{Unreached}
 
 -- the store and every slice are made for as many records as a call may list
 unfoldable pub fits : ℕ → ℕ → List ℕ → Bool
@@ -28,12 +27,12 @@ pub record Held (trace : List ℕ) (f : Found) (counts : Counts) (store sends : 
   pub new : take counts.listed times ≡ f.times
 
 -- the answer is how far the paper's call comes
-unfoldable pub reaches : List ℕ → paper.Reached → Reached → (store sends : List ℕ) → List ℤ → Type 0
-reaches trace x (Times counts) store sends times = (f : Found) × (x ≡ found f) × Held trace f counts store sends times
-reaches trace x (Refused fault site) store sends times = x ≡ stopped fault site
-reaches trace x Misfit store sends times = ⊥
+unfoldable pub reaches : List ℕ → paper.Reached → Result Counts Unreached → (store sends : List ℕ) → List ℤ → Type 0
+reaches trace x (Ok counts) store sends times = (f : Found) × (x ≡ found f) × Held trace f counts store sends times
+reaches trace x (Err (Unreached.Refused refusal)) store sends times = x ≡ stopped refusal.fault refusal.site
+reaches trace x (Err Unreached.Misfit) store sends times = ⊥
 
 -- an answer where the slices fit, and none where they do not
-pub record ReachedBy (fits : Bool) (g : Given) (r : Reached) (store sends : List ℕ) (times : List ℤ) : Type 0 where
+pub record ReachedBy (fits : Bool) (g : Given) (r : Result Counts Unreached) (store sends : List ℕ) (times : List ℤ) : Type 0 where
   pub answers : fits ≡ true → reaches g.trace (reach g) r store sends times
-  pub misfits : fits ≡ false → r ≡ Misfit
+  pub misfits : fits ≡ false → r ≡ (Err Unreached.Misfit)

@@ -9,18 +9,53 @@ ghost use Rattle.paper.specs.Answer.{most};
 ghost use Rattle.store.specs.Layout.{capacity};
 ghost use Rattle.clearance.specs.Clearance.{given_of};
 ghost use Rattle.reach.specs.Reach.{fits, ReachedBy};
+ghost use Rattle.reach.specs.Lines.{fault_as, unsolved_as};
 
 use answer::Counts;
-use clearance::Cleared;
-use paper::{Asked, Fault, Site};
+use paper::{Asked, Fault, Refusal};
+use solve::Unsolved;
 
+// Why a call does not come as far as the times.
 #[derive(Clone, Copy)]
-pub enum Reached {
-    // what was counted; the first places of the slices hold what belongs to the listed records
-    Times(Counts),
-    Refused(Fault, Site),
+pub enum Unreached {
+    Refused(Refusal),
     // the slices are not made for as many records as a call may list
     Misfit,
+}
+
+impl From<Refusal> for Unreached {
+    ghost use Rattle.reach.specs.declared.Unreached.TheVariants.{Refused};
+
+    ghost from_gives = { λ refusal e. e ≡ Refused refusal };
+
+    fn from(refusal: Refusal) -> Unreached {
+        Unreached::Refused(refusal)
+    }
+}
+
+// A fault of the call, or of the trace as a whole.
+impl From<Fault> for Unreached {
+    ghost from_gives = { λ fault e. e ≡ fault_as fault };
+
+    fn from(fault: Fault) -> Unreached {
+        Unreached::Refused(Refusal {
+            fault,
+            site: answer::nowhere(),
+        })
+    }
+}
+
+impl From<Unsolved> for Unreached {
+    ghost from_gives = { λ unsolved e. e ≡ unsolved_as unsolved };
+
+    fn from(unsolved: Unsolved) -> Unreached {
+        match unsolved {
+            Unsolved::Refused(refusal) => Unreached::Refused(refusal),
+            Unsolved::Impossible => Unreached::from(Fault::NoTimes),
+            // never: each slice has a place for each record that was read
+            Unsolved::Misfit => Unreached::Misfit,
+        }
+    }
 }
 
 // The store and every slice are made for n records.
@@ -36,13 +71,7 @@ fn fit(
 ) -> bool
     ensures { result ≡ fits n room (times ∷ sends ∷ before ∷ gap ∷ latency ∷ spare ∷ []) }
 {
-    if room != n {
-        return false;
-    }
-    if times != room {
-        return false;
-    }
-    engine::all_are(room, sends, before, gap, latency, spare)
+    room == n && times == room && engine::all_are(room, sends, before, gap, latency, spare)
 }
 
 // `places` is how many times the caller lends. Of the other slices `before`, `gap`, `latency` and `spare` are room for the work.
@@ -58,13 +87,12 @@ pub fn reach(
     latency: &mut [u32],
     times: &mut [i64],
     spare: &mut [i64],
-) -> Reached
+) -> Result<Counts, Unreached>
     ensures { ReachedBy (fits (most (given_of trace.now latencies.now asked places)) (capacity store.old) (length times.old ∷ length sends.old ∷ length before.old ∷ length gap.old ∷ length latency.old ∷ length spare.old ∷ [])) (given_of trace.now latencies.now asked places) result store.new sends.new times.new }
 {
-    let room = store::capacity(store);
     if !fit(
         paper::MOST,
-        room,
+        store::capacity(store),
         times.len(),
         sends.len(),
         before.len(),
@@ -72,14 +100,10 @@ pub fn reach(
         latency.len(),
         spare.len(),
     ) {
-        return Reached::Misfit;
+        return Err(Unreached::Misfit);
     }
-    match clearance::check(trace, latencies, asked, places) {
-        Cleared::Refused(fault) => Reached::Refused(fault, answer::nowhere()),
-        Cleared::Under(choice) => {
-            lines::read(
-                choice, asked, trace, latencies, store, sends, before, gap, latency, times, spare,
-            )
-        }
-    }
+    let choice = clearance::check(trace, latencies, asked, places)?;
+    lines::read(
+        choice, asked, trace, latencies, store, sends, before, gap, latency, times, spare,
+    )
 }

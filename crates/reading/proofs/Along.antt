@@ -1,5 +1,6 @@
 -- A reading that comes to its end, line by line: each line is passed over, or listed with a time that is not below the last one of its
 -- processor and with room for it. What holds of such a reading is proved by going along it.
+use Rattle.std.specs.Prelude.{None, Ok}
 use Prim.Native.Nat.{ℕ, ◌+◌, ◌<◌}
 use mathlib.Core.Path.{◌≡◌, refl, sym, ap, ◌∙◌}
 use mathlib.Core.Bool.{Bool, true, false, cond}
@@ -14,11 +15,9 @@ use Rattle.paper.specs.Reading.{Lines, done, unended, ended, State, Reading, wit
 use Rattle.paper.specs.declared.Choice.{Choice}
 use Rattle.paper.specs.declared.Entry.{Entry}
 use Rattle.paper.specs.declared.Fault.TheVariants as Fault
-use Rattle.paper.specs.declared.Spot.TheVariants.{Whole}
 use Rattle.paper.specs.declared.Line.{Line}
 use Rattle.paper.specs.declared.Line.TheVariants.{Refused, Passed, Listed}
 use Rattle.paper.specs.declared.Record.{Record}
-use Rattle.paper.specs.declared.Stop.TheVariants.{End}
 use Rattle.forms.proofs.Tests.{never}
 
 pub not_below : (a b : ℤ) → b ≤ℤ a → lt_z a b ≡ false
@@ -48,7 +47,7 @@ module _ (most : ℕ) (st : State) where
   listed_line_lem (Listed q) r e = go (lt_z q.time (get_or st.last q.processor (pos 0))) (leb most st.listed) refl refl e
     where
       go : (a b : Bool) → lt_z q.time (get_or st.last q.processor (pos 0)) ≡ a → leb most st.listed ≡ b
-          → cond a (Refused Fault.Backwards Whole) (cond b (Refused Fault.TooMany Whole) (Listed q)) ≡ Listed r
+          → cond a (Refused Fault.Backwards None) (cond b (Refused Fault.TooMany None) (Listed q)) ≡ Listed r
           → (Listed q ≡ Listed r) × (get_or st.last r.processor (pos 0) ≤ℤ r.time) × (st.listed < most)
       go true b u v e = never (cc)
       go false true u v e = never (cc)
@@ -63,7 +62,7 @@ module _ (most : ℕ) (st : State) where
   passed_line Passed e = refl
   passed_line (Listed q) e = go (lt_z q.time (get_or st.last q.processor (pos 0))) (leb most st.listed) e
     where
-      go : (a b : Bool) → cond a (Refused Fault.Backwards Whole) (cond b (Refused Fault.TooMany Whole) (Listed q)) ≡ Passed → Listed q ≡ Passed
+      go : (a b : Bool) → cond a (Refused Fault.Backwards None) (cond b (Refused Fault.TooMany None) (Listed q)) ≡ Passed → Listed q ≡ Passed
       go true b e = cc
       go false true e = cc
       go false false e = e
@@ -80,22 +79,22 @@ module _ (most : ℕ) (st : State) where
 -- ---- there and back
 
 module _ (choice : Choice) (most : ℕ) where
-  pub reads : (x : Lines) (n : ℕ) (st : State) → (read_from choice most x n st).stop ≡ End
+  pub reads : (x : Lines) (n : ℕ) (st : State) → (read_from choice most x n st).stop ≡ Ok tt
       → Reads choice most x n st (read_from choice most x n st).entries (read_from choice most x n st).state
   unfolding read_from on_line
   reads done n st e = ends
   reads (unended l) n st e = never (cc)
   reads (ended l x) n st e = go (λ st₁. read_from choice most x (n + 1) st₁) (λ st₁. reads x (n + 1) st₁) (checked most st (line_of choice l)) refl e
     where
-      go : (more : State → Reading) → ((st₁ : State) → (more st₁).stop ≡ End → Reads choice most x (n + 1) st₁ (more st₁).entries (more st₁).state)
-          → (y : Line) → checked most st (line_of choice l) ≡ y → (on_line n l st y more).stop ≡ End
+      go : (more : State → Reading) → ((st₁ : State) → (more st₁).stop ≡ Ok tt → Reads choice most x (n + 1) st₁ (more st₁).entries (more st₁).state)
+          → (y : Line) → checked most st (line_of choice l) ≡ y → (on_line n l st y more).stop ≡ Ok tt
           → Reads choice most (ended l x) n st (on_line n l st y more).entries (on_line n l st y more).state
       go more f (Refused fault spot) p e = never (cc)
       go more f Passed p e = passes (passed_line most st (line_of choice l) p) (f (with_passed st) e)
       go more f (Listed r) p e = let (q, above, room) = listed_line_lem most st (line_of choice l) r p in lists q above room (f (with_listed st r) e)
 
   pub read_back : {x : Lines} {n : ℕ} {st st₁ : State} {es : List Entry} → Reads choice most x n st es st₁
-      → read_from choice most x n st ≡ record { stop = End; entries = es; state = st₁ }
+      → read_from choice most x n st ≡ record { stop = Ok tt; entries = es; state = st₁ }
   unfolding read_from on_line
   read_back ends = refl
   read_back (passes {st = st} p more) = rw (p, passed_checked most st) (read_back more)
@@ -104,12 +103,12 @@ module _ (choice : Choice) (most : ℕ) where
 
   -- ---- a trace
 
-  pub along : (s : List ℕ) → (read_of choice most s).stop ≡ End → Reads choice most (lines_of s) 1 start (read_of choice most s).entries (read_of choice most s).state
+  pub along : (s : List ℕ) → (read_of choice most s).stop ≡ Ok tt → Reads choice most (lines_of s) 1 start (read_of choice most s).entries (read_of choice most s).state
   unfolding read_of
   along s e = reads (lines_of s) 1 start e
 
   pub along_back : (s : List ℕ) {st₁ : State} {es : List Entry} → Reads choice most (lines_of s) 1 start es st₁
-      → read_of choice most s ≡ record { stop = End; entries = es; state = st₁ }
+      → read_of choice most s ≡ record { stop = Ok tt; entries = es; state = st₁ }
   unfolding read_of
   along_back s r = read_back r
 
@@ -126,7 +125,7 @@ same_along (lists {n = n} {r = r} p above room more) (lists {r = r'} q above' ro
     let (entries, state) = same_along (rw same at more) more' in
     (rw (same, entries), state)
 
-pub one_reading : (choice : Choice) (most most' : ℕ) (s : List ℕ) → (read_of choice most s).stop ≡ End → (read_of choice most' s).stop ≡ End
+pub one_reading : (choice : Choice) (most most' : ℕ) (s : List ℕ) → (read_of choice most s).stop ≡ Ok tt → (read_of choice most' s).stop ≡ Ok tt
     → read_of choice most s ≡ read_of choice most' s
 one_reading choice most most' s e e' =
     let (entries, state) = same_along (along choice most s e) (along choice most' s e') in

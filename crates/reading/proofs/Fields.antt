@@ -1,9 +1,9 @@
 -- A field, the space that ends it, and what follows.
+use Rattle.std.specs.Prelude.{Some}
 use Prim.Native.Nat.{ℕ, suc, ◌+◌, ◌≤◌, ◌<◌}
 use mathlib.Core.Path.{◌≡◌, refl, sym, ap, ◌∙◌}
 use mathlib.Core.List.{List, [], ◌∷◌, ◌++◌}
 use mathlib.Core.Bool.{Bool, true, false}
-use mathlib.Core.Option.{some}
 use native.Mathlib.Omega.{arith}
 use native.Mathlib.Nat.{zero-add, add-zero}
 use lib.ListN.{length, take, drop, length-append}
@@ -77,7 +77,7 @@ module _ (f r : List ℕ) (free : Free 32 f) where
   unfolding goes_on
   goes_on_lem = rw (index_free 32 f r free) (lt-ltb (length f) (length (f ++ (32 ∷ r))) (rw length-append (omega arith)))
 
-  pub rest_of : rest (f ++ (32 ∷ r)) ≡ some r
+  pub rest_of : rest (f ++ (32 ∷ r)) ≡ Some r
   unfolding rest
   rest_of = rw (goes_on_lem, after_of)
 

@@ -1,16 +1,13 @@
 -- The six fields of a line that begins well are in range.
+use Rattle.std.specs.Prelude.{Option, Some, None}
 use Prim.Native.Nat.{ℕ}
 use mathlib.Core.Path.{◌≡◌, refl}
 use mathlib.Core.Bool.{Bool, true, false, cond}
-use mathlib.Core.Option.{Option, none, some}
 use mathlib.Core.List.{List}
 use lib.IntN.{ℤ}
 use Rattle.paper.specs.Forms.{whole_of, time_of}
 use Rattle.paper.specs.Line.{field, rest, fields_above, First, nothing, first, on_field, on_first, first_of, count_of, Begun, bad, six, place_of, six_of, head_of}
 use Rattle.paper.specs.declared.Fault.{Fault}
-use Rattle.paper.specs.declared.Fault.TheVariants as Fault
-use Rattle.paper.specs.declared.Field.{Field}
-use Rattle.paper.specs.declared.Field.TheVariants.{Good, Bad}
 use Rattle.paper.specs.declared.Head.{Head}
 use Rattle.forms.proofs.Goods.{whole_in_range, time_in_range}
 use Rattle.reading.specs.Tidy.{InRange, Whole}
@@ -25,16 +22,16 @@ TidyBegun (bad fault k) = Unit
 TidyBegun (six h fields) = TidyHead h
 
 -- a field in a form keeps to what the form does
-module _ (form : List ℕ → Field) (P : ℤ → Type 0) (good : (s : List ℕ) (v : ℤ) → form s ≡ Good v → P v) where
+module _ (form : List ℕ → Option ℤ) (P : ℤ → Type 0) (good : (s : List ℕ) (v : ℤ) → form s ≡ Some v → P v) where
   on_field_lem : (f : Option (List ℕ)) (fault : Fault) (k : ℕ) (more : ℤ → Option (List ℕ) → Begun)
       → ((v : ℤ) (g : Option (List ℕ)) → P v → TidyBegun (more v g)) → TidyBegun (on_first (first_of form f) (bad fault k) more)
   unfolding first_of
-  on_field_lem none fault k more h = tt
-  on_field_lem (some l) fault k more h = go (form (field l)) refl
+  on_field_lem None fault k more h = tt
+  on_field_lem (Some l) fault k more h = go (form (field l)) refl
     where
-      go : (x : Field) → form (field l) ≡ x → TidyBegun (on_first (on_field x nothing (λ v. first v (rest l))) (bad fault k) more)
-      go (Good v) e = h v (rest l) (good (field l) v e)
-      go Bad e = tt
+      go : (x : Option ℤ) → form (field l) ≡ x → TidyBegun (on_first (on_field x nothing (λ v. first v (rest l))) (bad fault k) more)
+      go (Some v) e = h v (rest l) (good (field l) v e)
+      go None e = tt
 
 on_first_lem : (k : ℕ) (f : First) (more : ℤ → Option (List ℕ) → Begun) → ((v : ℤ) (g : Option (List ℕ)) → TidyBegun (more v g)) → TidyBegun (on_first f (bad Fault.Form k) more)
 on_first_lem k nothing more h = tt
@@ -54,6 +51,6 @@ pub tidy_head : (l : List ℕ) → TidyBegun (head_of l)
 unfolding head_of
 tidy_head l = go (fields_above 5 l)
   where
-    go : (b : Bool) → TidyBegun (cond b (six_of (some l)) (bad Fault.Form 5))
-    go true = tidy_six (some l)
+    go : (b : Bool) → TidyBegun (cond b (six_of (Some l)) (bad Fault.Form 5))
+    go true = tidy_six (Some l)
     go false = tt

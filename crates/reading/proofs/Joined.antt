@@ -1,4 +1,5 @@
 -- Reading the lines of a ++ b is reading a, and then b from the state reached.
+use Rattle.std.specs.Prelude.{Result, Ok, Err}
 use Prim.Native.Nat.{ℕ, suc, ◌+◌}
 use mathlib.Core.Path.{◌≡◌, refl, ap, ◌∙◌}
 use mathlib.Core.List.{List, ◌++◌}
@@ -10,17 +11,16 @@ use Rattle.paper.specs.declared.Choice.{Choice}
 use Rattle.paper.specs.declared.Entry.{Entry}
 use Rattle.paper.specs.declared.Line.{Line}
 use Rattle.paper.specs.declared.Line.TheVariants.{Refused, Passed, Listed}
-use Rattle.paper.specs.declared.Stop.{Stop}
-use Rattle.paper.specs.declared.Stop.TheVariants.{End, At}
+use Rattle.paper.specs.declared.Refusal.{Refusal}
 use Rattle.reading.specs.Joined.{AllEnded, line_count, followed, resumed}
 use Rattle.reading.proofs.Lines.{lines_followed}
 
 -- an entry in front stays in front
-entry_resumed : (e : Entry) (r : Reading) (more : State → Reading) (s : Stop) → r.stop ≡ s
+entry_resumed : (e : Entry) (r : Reading) (more : State → Reading) (s : Result Unit Refusal) → r.stop ≡ s
     → with_entry e (resumed r more s) ≡ resumed (with_entry e r) more s
 unfolding resumed
-entry_resumed e r more End p = refl
-entry_resumed e r more (At fault site) p = refl
+entry_resumed e r more (Ok tt) p = refl
+entry_resumed e r more (Err refusal) p = refl
 
 -- one line in front, read alike by both
 line_resumed : (n : ℕ) (l : List ℕ) (st : State) (x : Line) (whole part : State → Reading) (more : State → Reading)

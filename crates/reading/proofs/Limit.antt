@@ -1,5 +1,6 @@
 -- A reading that comes to its end under one limit: under another one it comes to its end exactly if that is not below the number of listed
 -- records, and otherwise it is refused by 12.
+use Rattle.std.specs.Prelude.{None, Ok}
 use Prim.Native.Nat.{ℕ, ◌+◌, ◌≤◌, ◌<◌}
 use native.Mathlib.Omega.{arith}
 use mathlib.Core.Path.{◌≡◌, refl}
@@ -10,25 +11,23 @@ use lib.IntN.{pos}
 use lib.Signed.{◌≤ℤ◌}
 use lib.Dec.{leb}
 use borrow.Author.Tests.{leb-false}
-use Rattle.paper.specs.Columns.{column_in, whole_line}
+use Rattle.paper.specs.Columns.{column_in, whole_line, refused_at}
 use Rattle.paper.specs.Reading.{Lines, ended, State, start, with_passed, with_listed, checked, on_line, read_from, lines_of, read_of}
 use Rattle.paper.specs.declared.Choice.{Choice}
 use Rattle.paper.specs.declared.Entry.{Entry}
 use Rattle.paper.specs.declared.Fault.TheVariants as Fault
 use Rattle.paper.specs.declared.Line.TheVariants.{Refused, Listed}
 use Rattle.paper.specs.declared.Record.{Record}
-use Rattle.paper.specs.declared.Spot.TheVariants.{Whole}
-use Rattle.paper.specs.declared.Stop.TheVariants.{End, At}
 use Rattle.reading.proofs.Along.{Reads, ends, passes, lists, not_below, passed_checked, listed_checked, along_back}
 
 full_checked : (limit : ℕ) (st : State) (r : Record) → get_or st.last r.processor (pos 0) ≤ℤ r.time → leb limit st.listed ≡ true
-    → checked limit st (Listed r) ≡ Refused Fault.TooMany Whole
+    → checked limit st (Listed r) ≡ Refused Fault.TooMany None
 unfolding checked
 full_checked limit st r above full = rw (not_below r.time _ above, full)
 
 -- the line that is refused by 12
 abbrev pub StopsFull : Choice → ℕ → Lines → ℕ → State → Type 0
-StopsFull choice limit x n st = (k : ℕ) × ((read_from choice limit x n st).stop ≡ At Fault.TooMany (whole_line k))
+StopsFull choice limit x n st = (k : ℕ) × ((read_from choice limit x n st).stop ≡ refused_at Fault.TooMany (whole_line k))
 
 module _ {choice : Choice} {most : ℕ} (limit : ℕ) where
   pub within_limit : {x : Lines} {n : ℕ} {st st₁ : State} {es : List Entry} → Reads choice most x n st es st₁
@@ -56,10 +55,10 @@ module _ {choice : Choice} {most : ℕ} (limit : ℕ) where
 -- ---- a trace
 
 module _ (choice : Choice) {most : ℕ} (limit : ℕ) (s : List ℕ) {es : List Entry} {st₁ : State} (r : Reads choice most (lines_of s) 1 start es st₁) where
-  pub trace_within : length es ≤ limit → read_of choice limit s ≡ record { stop = End; entries = es; state = st₁ }
+  pub trace_within : length es ≤ limit → read_of choice limit s ≡ record { stop = Ok tt; entries = es; state = st₁ }
   unfolding start
   trace_within h = along_back choice limit s (within_limit limit r (omega arith))
 
-  pub trace_past : limit < length es → (k : ℕ) × ((read_of choice limit s).stop ≡ At Fault.TooMany (whole_line k))
+  pub trace_past : limit < length es → (k : ℕ) × ((read_of choice limit s).stop ≡ refused_at Fault.TooMany (whole_line k))
   unfolding start read_of
   trace_past h = past_limit limit r (omega arith) (omega arith)

@@ -1,18 +1,17 @@
 -- A line that has at least six fields begins as what each of them reads as.
+use Rattle.std.specs.Prelude.{Option, ℤ}
 use Prim.Native.Nat.{ℕ}
 use mathlib.Core.Path.{◌≡◌}
 use mathlib.Core.Bool.{true}
-use mathlib.Core.Option.{Option}
 use mathlib.Core.List.{List}
 use lib.IntN.{nat_abs}
 use Rattle.paper.specs.Forms.{whole_of, time_of}
 use Rattle.paper.specs.Line.{field, after, rest, fields_above, on_field, count_of, Begun, bad, six, place_of, six_of, head_of}
 use Rattle.paper.specs.declared.Fault.TheVariants as Fault
-use Rattle.paper.specs.declared.Field.{Field}
 use Rattle.reading.proofs.Stamp.{took, rest_on, above}
 
 -- the six fields read as a to f
-abbrev pub read_as : (a b c d e f : Field) → Option (List ℕ) → Begun
+abbrev pub read_as : (a b c d e f : Option ℤ) → Option (List ℕ) → Begun
 read_as a b c d e f fields =
     on_field a (bad Fault.Form 0) (λ kind.
     on_field b (bad Fault.Form 1) (λ event.

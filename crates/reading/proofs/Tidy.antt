@@ -1,9 +1,9 @@
 -- Every listed record is tidy.
+use Rattle.std.specs.Prelude.{Option, Result, Some, None, Ok, Err}
 use Prim.Native.Nat.{ℕ, zero, suc, ◌≤◌, ◌<◌}
 use mathlib.Core.Path.{◌≡◌, refl}
 use mathlib.Core.List.{List, [], ◌∷◌}
 use mathlib.Core.Bool.{Bool, true, false, cond, ◌&&◌}
-use mathlib.Core.Option.{Option, none, some}
 use native.Mathlib.Omega.{arith}
 use lib.IntN.{ℤ, pos, negsuc, nat_abs}
 use lib.Signed.{le_z}
@@ -14,24 +14,15 @@ use Rattle.paper.specs.Forms.{whole_of, time_of}
 use Rattle.paper.specs.Events.{listed_kind, is_statistics, standing_for}
 use Rattle.paper.specs.Line.{field, rest, First, nothing, first, on_field, on_first, first_of, Numbers, wrong, numbers, pushed, values_of, as_wholes, as_others, described, data_of, Pairs, unpaired, pairs, pairs_for, as_pairs, values_in, placed, part_of, message_of, role_of, record_of, with_role, with_data, on_place, listed_line, good_end, step_over, unlisted, sorted, Begun, bad, six, begun, head_of, line_of}
 use Rattle.paper.specs.declared.Choice.{Choice}
-use Rattle.paper.specs.declared.Choice.TheVariants as Choice
 use Rattle.paper.specs.declared.Head.{Head}
-use Rattle.paper.specs.declared.Field.{Field}
-use Rattle.paper.specs.declared.Field.TheVariants.{Good, Bad}
 use Rattle.paper.specs.declared.Data.{Data}
 use Rattle.paper.specs.declared.Data.TheVariants.{Three, Others}
-use Rattle.paper.specs.declared.Values.{Values}
-use Rattle.paper.specs.declared.Values.TheVariants as Values
 use Rattle.paper.specs.declared.Part.{Part}
-use Rattle.paper.specs.declared.Part.TheVariants as Part
 use Rattle.paper.specs.declared.Message.{Message}
 use Rattle.paper.specs.declared.Role.{Role}
-use Rattle.paper.specs.declared.Role.TheVariants as Role
 use Rattle.paper.specs.declared.Record.{Record}
 use Rattle.paper.specs.declared.Fault.TheVariants as Fault
 use Rattle.paper.specs.declared.Standing.{Standing}
-use Rattle.paper.specs.declared.Standing.TheVariants as Standing
-use Rattle.paper.specs.declared.Spot.TheVariants as Spot
 use Rattle.paper.specs.declared.Line.TheVariants.{Refused, Listed}
 use Rattle.forms.proofs.Goods.{whole_in_range}
 use Rattle.forms.proofs.Tests.{both, never}
@@ -45,9 +36,9 @@ test P false x y h k = k
 
 -- ---- the data
 
-abbrev TidyValues : Values → Type 0
-TidyValues (Values.Good d) = TidyData d
-TidyValues (Values.Bad k) = Unit
+abbrev TidyValues : Result Data ℕ → Type 0
+TidyValues (Ok d) = TidyData d
+TidyValues (Err k) = Unit
 
 tidy_others : (o : Numbers) → TidyValues (as_others o)
 unfolding as_others
@@ -69,15 +60,15 @@ whole_pushed v (numbers vs) h w = (h, w)
 
 whole_values : (k n : ℕ) (f : Option (List ℕ)) → AllWhole (values_of whole_of k n f)
 unfolding values_of first_of
-whole_values k zero none = tt
-whole_values k zero (some l) = tt
-whole_values k (suc n) none = tt
-whole_values k (suc n) (some l) = go (whole_of (field l)) refl (whole_values (suc k) n (rest l))
+whole_values k zero None = tt
+whole_values k zero (Some l) = tt
+whole_values k (suc n) None = tt
+whole_values k (suc n) (Some l) = go (whole_of (field l)) refl (whole_values (suc k) n (rest l))
   where
-    go : (x : Field) → whole_of (field l) ≡ x → AllWhole (values_of whole_of (suc k) n (rest l))
+    go : (x : Option ℤ) → whole_of (field l) ≡ x → AllWhole (values_of whole_of (suc k) n (rest l))
         → AllWhole (on_first (on_field x nothing (λ v. first v (rest l))) (wrong k) (λ v g. pushed v (values_of whole_of (suc k) n g)))
-    go (Good v) e later = whole_pushed v (values_of whole_of (suc k) n (rest l)) (whole_in_range (field l) v e) later
-    go Bad e later = tt
+    go (Some v) e later = whole_pushed v (values_of whole_of (suc k) n (rest l)) (whole_in_range (field l) v e) later
+    go None e later = tt
 
 tidy_wholes : (o : Numbers) → AllWhole o → TidyValues (as_wholes o)
 unfolding as_wholes
@@ -91,13 +82,13 @@ tidy_wholes (numbers (a ∷ b ∷ c ∷ d ∷ more)) h = tt
 tidy_data : (n : ℕ) (f : Option (List ℕ)) → TidyValues (data_of n f)
 unfolding data_of described
 tidy_data zero f = tidy_others (values_of whole_of 6 zero f)
-tidy_data (suc n) f = test TidyValues (leb (suc n) 16) _ (Values.Bad 5) (λ h. go (first_of whole_of f)) tt
+tidy_data (suc n) f = test TidyValues (leb (suc n) 16) _ (Err 5) (λ h. go (first_of whole_of f)) tt
   where
-    go : (x : First) → TidyValues (on_first x (Values.Bad 6) (λ d g. described (suc n) d g))
+    go : (x : First) → TidyValues (on_first x (Err 6) (λ d g. described (suc n) d g))
     go nothing = tt
     go (first d g) =
         test TidyValues (eq_z d (pos 2)) _ _ (λ h. tidy_wholes (values_of whole_of 7 (suc n) g) (whole_values 7 (suc n) g))
-        (test TidyValues (eq_z d (pos 5)) _ (Values.Bad 6) (λ h. tidy_others (values_of time_of 7 (suc n) g)) tt)
+        (test TidyValues (eq_z d (pos 5)) _ (Err 6) (λ h. tidy_others (values_of time_of 7 (suc n) g)) tt)
 
 -- ---- the pairs of a statistics line
 
@@ -116,12 +107,12 @@ up_to_below : (n : ℕ) (z : ℤ) → up_to n z ≡ true → nat_abs z ≤ n
 up_to_below n (pos m) e = leb-true m n (both (leb 0 m) (leb m n) e).1
 up_to_below n (negsuc m) e = absurd (let q : ◌≡◌ {A = ℕ} 0 1 = cc in omega arith)
 
-tidy_message : (d : Data) → TidyData d → (m : Message) → message_of d ≡ some m → TidyMessage m
+tidy_message : (d : Data) → TidyData d → (m : Message) → message_of d ≡ Some m → TidyMessage m
 unfolding message_of
 tidy_message Others k m e = never (cc)
 tidy_message (Three a b c) k m e = go (le_z (pos 0) a && up_to 63 c) refl e
   where
-    go : (x : Bool) → (le_z (pos 0) a && up_to 63 c) ≡ x → cond x (some (record { length = nat_abs a; tag = b; peer = nat_abs c })) none ≡ some m
+    go : (x : Bool) → (le_z (pos 0) a && up_to 63 c) ≡ x → cond x (Some (record { length = nat_abs a; tag = b; peer = nat_abs c })) None ≡ Some m
         → TidyMessage m
     go true p e =
         let same : record { length = nat_abs a; tag = b; peer = nat_abs c } ≡ m = cc in
@@ -146,15 +137,15 @@ module _ (h : Head) (head : TidyHead h) (p : ℕ) (place : p < 64) where
   tidy_part : (part : Part) (d : Data) → TidyData d → (o : Option Message) → message_of d ≡ o → TidyLine (with_role h p d (role_of part d))
   unfolding role_of with_role
   tidy_part Part.Neither d k o e = tidy_kept d k Role.Neither tt tt
-  tidy_part Part.Sends d k none e = rw e tt
-  tidy_part Part.Sends d k (some m) e = rw e (tidy_kept d k (Role.Send m) (tidy_message d k m e) e)
-  tidy_part Part.Receives d k none e = rw e tt
-  tidy_part Part.Receives d k (some m) e = rw e (tidy_kept d k (Role.Receive m) (tidy_message d k m e) e)
+  tidy_part Part.Sends d k None e = rw e tt
+  tidy_part Part.Sends d k (Some m) e = rw e (tidy_kept d k (Role.Send m) (tidy_message d k m e) e)
+  tidy_part Part.Receives d k None e = rw e tt
+  tidy_part Part.Receives d k (Some m) e = rw e (tidy_kept d k (Role.Receive m) (tidy_message d k m e) e)
 
-  tidy_with : (part : Part) (d : Values) → TidyValues d → TidyLine (with_data h p part d)
+  tidy_with : (part : Part) (d : Result Data ℕ) → TidyValues d → TidyLine (with_data h p part d)
   unfolding with_data
-  tidy_with part (Values.Bad k) t = tt
-  tidy_with part (Values.Good values) t = tidy_part part values t _ refl
+  tidy_with part (Err k) t = tt
+  tidy_with part (Ok values) t = tidy_part part values t _ refl
 
 -- ---- the line
 
@@ -162,7 +153,7 @@ tidy_listed : (h : Head) → TidyHead h → (f : Option (List ℕ)) → TidyLine
 unfolding listed_line placed on_place
 tidy_listed h head f = go (up_to 63 h.processor && eq_z h.process (pos 0)) refl
   where
-    go : (x : Bool) → (up_to 63 h.processor && eq_z h.process (pos 0)) ≡ x → TidyLine (on_place h f (cond x (some (nat_abs h.processor)) none))
+    go : (x : Bool) → (up_to 63 h.processor && eq_z h.process (pos 0)) ≡ x → TidyLine (on_place h f (cond x (Some (nat_abs h.processor)) None))
     go true e =
         tidy_with h head (nat_abs h.processor)
         (omega (arith, up_to_below 63 h.processor (both (up_to 63 h.processor) (eq_z h.process (pos 0)) e).0))
@@ -176,7 +167,7 @@ tidy_over Choice.Lenient h = tt
 
 tidy_unlisted : (choice : Choice) (h : Head) (f : Option (List ℕ)) → TidyLine (unlisted choice h f)
 unfolding unlisted
-tidy_unlisted choice h f = test TidyLine (good_end h.count f) (step_over choice h) (Refused Fault.Form (Spot.Field 6)) (λ e. tidy_over choice h) tt
+tidy_unlisted choice h f = test TidyLine (good_end h.count f) (step_over choice h) (Refused Fault.Form (Some 6)) (λ e. tidy_over choice h) tt
 
 tidy_sorted : (choice : Choice) (h : Head) → TidyHead h → (f : Option (List ℕ)) (s : Standing) → TidyLine (sorted choice h f s)
 unfolding sorted

@@ -1,9 +1,8 @@
 -- Lines one after the other, and a reading that goes on where another ended.
-use Rattle.std.specs.Prelude.{ℕ, suc, List, ◌++◌}
+use Rattle.std.specs.Prelude.{ℕ, suc, List, ◌++◌, Result, Ok, Err}
 use Rattle.paper.specs.Reading.{Lines, done, unended, ended, State, Reading}
 use Rattle.paper.specs.declared.Entry.{Entry}
-use Rattle.paper.specs.declared.Stop.{Stop}
-use Rattle.paper.specs.declared.Stop.TheVariants.{End, At}
+use Rattle.paper.specs.declared.Refusal.{Refusal}
 
 -- each line has its LF
 unfoldable pub AllEnded : Lines → Type 0
@@ -28,6 +27,6 @@ abbrev pub behind : List Entry → Reading → Reading
 behind es r = record { stop = r.stop; entries = es ++ r.entries; state = r.state }
 
 -- a reading, and where it came to its end what is read from its state on
-unfoldable pub resumed : Reading → (State → Reading) → Stop → Reading
-resumed r more End = behind r.entries (more r.state)
-resumed r more (At fault site) = r
+unfoldable pub resumed : Reading → (State → Reading) → Result Unit Refusal → Reading
+resumed r more (Ok tt) = behind r.entries (more r.state)
+resumed r more (Err refusal) = r

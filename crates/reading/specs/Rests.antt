@@ -1,12 +1,11 @@
 -- The rest of a line from a cursor on, by whether the line has ended before it: the fields that follow, and where the next line starts.
-use Rattle.std.specs.Prelude.{ℕ, ◌≤◌, ◌≡◌, List, Bool, true, false, length}
-use Rattle.std.proofs.Math.Option.{Option, none, some}
+use Rattle.std.specs.Prelude.{ℕ, ◌≤◌, ◌≡◌, List, Bool, true, false, length, Option, Some, None}
 use Rattle.reading.specs.Places.{line_at, next_line}
 
 -- the fields that follow: none, or those from the cursor on
 unfoldable pub fields_from : List ℕ → Bool → ℕ → Option (List ℕ)
-fields_from s true at = none
-fields_from s false at = some (line_at s at)
+fields_from s true at = None
+fields_from s false at = Some (line_at s at)
 
 -- where the next line starts: at the cursor, or where the cursor's line ends
 unfoldable pub end_from : List ℕ → Bool → ℕ → ℕ

@@ -1,7 +1,6 @@
 -- What every listed record keeps to: its time is one that the format holds, its processor and its peer are below 64, its record type,
 -- event type and data are whole numbers, and its message is what its data say.
-use Rattle.std.specs.Prelude.{◌≤◌, ◌<◌, ◌≡◌, ℤ, nat_abs}
-use Rattle.std.proofs.Math.Option.{some}
+use Rattle.std.specs.Prelude.{◌≤◌, ◌<◌, ◌≡◌, ℤ, nat_abs, Some}
 use Rattle.paper.specs.Line.{message_of}
 use Rattle.paper.specs.declared.Data.{Data}
 use Rattle.paper.specs.declared.Data.TheVariants.{Three, Others}
@@ -36,8 +35,8 @@ TidyData Others = Unit
 -- a message is what its three data say
 abbrev pub Says : Role → Data → Type 0
 Says Neither values = Unit
-Says (Send m) values = message_of values ≡ some m
-Says (Receive m) values = message_of values ≡ some m
+Says (Send m) values = message_of values ≡ Some m
+Says (Receive m) values = message_of values ≡ Some m
 
 pub record TidyRecord (r : Record) : Type 0 where
   pub time : InRange r.time

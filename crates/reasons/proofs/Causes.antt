@@ -1,10 +1,11 @@
 -- Why a record of a chain has its time, by the tests told.
-use Prim.Native.Nat.{ℕ, ◌+◌, ◌≤◌, ◌<◌}
-use mathlib.Core.Path.{◌≡◌, sym, ◌∙◌}
+use Prim.Native.Nat.{ℕ}
+use Rattle.std.specs.Prelude.{Some, None, slice_get}
+use Rattle.std.proofs.lemmas.Option.{same_Some}
+use mathlib.Core.Path.{◌≡◌, refl, sym, ◌∙◌}
 use mathlib.Core.Bool.{Bool, true, false}
-use mathlib.Core.List.{List}
-use lib.ListN.{length, get_or, drop, drop_of_length-le}
-use lib.Seq.{drop-cons}
+use mathlib.Core.List.{List, [], ◌∷◌}
+use lib.ListN.{get_or}
 use lib.IntN.{ℤ, pos, ◌+ℤ◌}
 use borrow.Author.Tests.{eq-eqb, ne_eqb}
 use Rattle.paper.specs.Tests.{eq_z}
@@ -61,12 +62,14 @@ module _ (es : List Entry) (times : List ℤ) (before gap latency : List ℕ) (i
 
 -- ---- by what comes behind
 
-module _ (es : List Entry) (times : List ℤ) (before gap latency chain : List ℕ) (k : ℕ) where
-  pub last_one : (i : ℕ) → length chain ≤ k + 1 → Original ≡ cause_of es times before gap latency i (drop (k + 1) chain)
+module _ (es : List Entry) (times : List ℤ) (before gap latency : List ℕ) (i : ℕ) where
+  pub last_one : (more : List ℕ) → slice_get more 0 ≡ None → Original ≡ cause_of es times before gap latency i more
   unfolding cause_of
-  last_one i h = rw (drop_of_length-le chain {i = k + 1} h)
+  last_one [] e = refl
+  last_one (j ∷ more) e = cc
 
-  pub goes_on_lem : {cause : Cause} → k + 1 < length chain → cause ≡ cause_by es times before gap latency (get_or chain k 0) (get_or chain (k + 1) 0)
-      → cause ≡ cause_of es times before gap latency (get_or chain k 0) (drop (k + 1) chain)
+  pub goes_on_lem : (more : List ℕ) {next : ℕ} {cause : Cause} → slice_get more 0 ≡ Some next → cause ≡ cause_by es times before gap latency i next
+      → cause ≡ cause_of es times before gap latency i more
   unfolding cause_of
-  goes_on_lem h e = rw (drop-cons chain (k + 1) 0 h) e
+  goes_on_lem [] e h = cc
+  goes_on_lem (j ∷ more) {next} e h = let q : j ≡ next = same_Some j next e in rw q h

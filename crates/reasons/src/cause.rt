@@ -1,5 +1,5 @@
 // Why a record of a chain has its time, by the record that comes behind it there.
-ghost use Rattle.std.specs.Prelude.{◌≡◌, ◌+◌, ◌<◌, length, get_or, drop};
+ghost use Rattle.std.specs.Prelude.{◌≡◌, length, get_or};
 ghost use Rattle.store.specs.Layout.{entries_in};
 ghost use Rattle.reasons.specs.Reasons.{by_processor, cause_behind, cause_by, cause_of};
 
@@ -9,10 +9,7 @@ use lines::{Cause, Stamped};
 fn gap_at(table: &[u64], i: usize) -> u64
     ensures { result ≡ get_or table.now i 0 }
 {
-    if table.len() <= i {
-        return 0;
-    }
-    table[i]
+    table.get(i).copied().unwrap_or(0)
 }
 
 // By the processor, which keeps so much of the gap.
@@ -59,22 +56,20 @@ fn cause_by(
     cause_behind(store, times, kept, wait, at, j as usize)
 }
 
-// Of the record at place k of a chain: the last one is at its original.
-pub(crate) fn cause_at(
+// Of a record of a chain, by those behind it: the last one is at its original.
+pub(crate) fn cause_of(
     store: &[u32],
     times: &[i64],
     before: &[u32],
     gap: &[u64],
     latency: &[u32],
-    chain: &[u64],
-    k: usize,
+    own: u64,
+    more: &[u64],
 ) -> Cause
-    requires { k < length chain.now }
-    ensures { result ≡ cause_of (entries_in store.now (length times.now)) times.now before.now gap.now latency.now (get_or chain.now k 0) (drop (k + 1) chain.now) }
+    ensures { result ≡ cause_of (entries_in store.now (length times.now)) times.now before.now gap.now latency.now own more.now }
 {
-    let next = k + 1;
-    if chain.len() <= next {
-        return Cause::Original;
+    match more.first() {
+        Some(next) => cause_by(store, times, before, gap, latency, own, *next),
+        None => Cause::Original,
     }
-    cause_by(store, times, before, gap, latency, chain[k], chain[next])
 }

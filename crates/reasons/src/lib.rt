@@ -22,11 +22,19 @@ fn put_lines(
     requires { 256 * length chain.now ≤ length room.old }
     ensures { Short (256 * length chain.now) room.old 0 (reasons_of (entries_in store.now (length times.now)) times.now before.now gap.now latency.now chain.now) result room.new }
 {
-    let mut at: usize = 0;
-    let mut k: usize = 0;
-    while k < chain.len() {
-        at = single::put_reason(store, times, before, gap, latency, chain, k, room, at);
-        k += 1;
+    let mut at = 0;
+    for k in 0..chain.len() {
+        at = single::put_reason(
+            store,
+            times,
+            before,
+            gap,
+            latency,
+            chain[k],
+            &chain[k + 1..],
+            room,
+            at,
+        );
     }
     at
 }

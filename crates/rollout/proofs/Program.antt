@@ -1,51 +1,47 @@
 -- What is said, by what the arguments ask for; and that what the system told leaves one thing to say.
+use Rattle.std.specs.Prelude.{Option, Result, Some, None, Ok, Err, is_some}
 use Prim.Native.Nat.{ℕ}
 use mathlib.Core.Path.{◌≡◌, refl, sym, ◌∙◌}
-use mathlib.Core.Bool.{Bool, true, false, cond}
+use mathlib.Core.Bool.{true}
 use mathlib.Core.List.{List}
-use mathlib.Core.Option.{none, some}
 use Rattle.report.specs.Said.{Spoken}
 use Rattle.report.specs.declared.Said.{Said}
 use Rattle.files.specs.Told.{ByFiles}
 use Rattle.filed.specs.Filed.{on_files}
-use Rattle.named.specs.Parts.{cut}
-use Rattle.named.specs.declared.Name.{Name}
 use Rattle.named.specs.declared.Span.{Span}
 use Rattle.flags.specs.Plan.{Meant, is_given}
-use Rattle.flags.specs.Spans.{request_in, plan_in, Planned}
-use Rattle.flags.specs.declared.Plan.{Plan}
-use Rattle.flags.specs.declared.Plan.TheVariants.{Bad, Missing, Judge}
+use Rattle.flags.specs.Spans.{value_in, request_in, plan_in, Planned}
 use Rattle.flags.specs.declared.Wishes.{Wishes}
-use Rattle.complaint.specs.Complaint.{Complained}
+use Rattle.complaint.specs.Complaint.{complaint_of, Complained}
 use Rattle.rollout.specs.Program.{shown_of, ShownBy}
+use Rattle.flags.specs.declared.Lack.{Lack}
 
-module _ (line : List ℕ) {meant : Meant} {plan : Plan} (planned : Planned line meant plan) {room after : List ℕ} {n : ℕ} where
-  pub names_bad : {word : Span} → plan ≡ Bad word → Complained line plan room n after → ShownBy meant room n after
+module _ (line : List ℕ) {meant : Meant} {plan : Result Wishes Lack} (planned : Planned line meant plan) {room after : List ℕ} {n : ℕ} where
+  pub complains : {lack : Lack} → plan ≡ Err lack → Complained line plan room n after → ShownBy meant room n after
   unfolding shown_of plan_in
-  names_bad e c =
-      rw (← planned.is, e) (record { trace = none; table = none; stored = true; put = rw e at c.put; counts = c.counts })
+  complains {lack} e c =
+      rw (← planned.is, e) (record { trace = None; table = None; stored = true; put = rw (e, same lack) at c.put; counts = c.counts })
+    where
+      same : (lack : Lack) → complaint_of (plan_in line (Err lack)) ≡ shown_of (plan_in line (Err lack)) None None true
+      same (Lack.Bad word) = refl
+      same (Lack.Missing name) = refl
 
-  pub names_missing : {name : Name} → plan ≡ Missing name → Complained line plan room n after → ShownBy meant room n after
-  unfolding shown_of plan_in
-  names_missing e c =
-      rw (← planned.is, e) (record { trace = none; table = none; stored = true; put = rw e at c.put; counts = c.counts })
-
-  pub says : {wishes : Wishes} {said : Said} → plan ≡ Judge wishes → ByFiles (on_files wishes.asked wishes.wanted) said
+  pub says : {wishes : Wishes} {said : Said} → plan ≡ Ok wishes → ByFiles (on_files wishes.asked (is_some wishes.out)) said
       → Spoken said room n after → ShownBy meant room n after
-  unfolding shown_of plan_in request_in is_given
+  unfolding shown_of plan_in request_in is_given value_in
   says {wishes} e by s =
       rw (← planned.is, e)
       (record {
         trace = by.first;
         table = by.second;
         stored = by.rest.stored;
-        put = rw (wanted wishes.wanted, ← by.rest.says) s.put;
+        put = rw (wanted wishes.out, ← by.rest.says) s.put;
         counts = s.counts;
       })
     where
-      wanted : (w : Bool) → is_given (cond w (some (cut line wishes.out)) none) ≡ w
-      wanted true = refl
-      wanted false = refl
+      wanted : (out : Option Span) → is_given (value_in line out) ≡ is_some out
+      wanted None = refl
+      wanted (Some span) = refl
 
 -- ---- one answer
 

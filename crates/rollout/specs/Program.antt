@@ -1,6 +1,5 @@
 -- What the program `canary` says, by what its arguments mean and by what the system tells of its files.
-use Rattle.std.specs.Prelude.{ℕ, Bool, List}
-use Rattle.std.proofs.Math.Option.{Option}
+use Rattle.std.specs.Prelude.{ℕ, Bool, List, Option}
 use Rattle.io.specs.Counts.{IsPrefixLen}
 use Rattle.report.specs.Put.{Put}
 use Rattle.report.specs.Said.{said_shown}

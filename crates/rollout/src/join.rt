@@ -12,13 +12,10 @@ fn append(line: &mut [u8], at: usize, word: &[u8]) -> usize
     if line.len() - at <= word.len() {
         return at;
     }
-    let mut i: usize = 0;
-    while i < word.len() {
-        line[at + i] = word[i];
-        i += 1;
-    }
-    line[at + i] = 0;
-    at + i + 1
+    let end = at + word.len();
+    line[at..end].copy_from_slice(word);
+    line[end] = 0;
+    end + 1
 }
 
 // An argument longer than any file's name is handed on as an empty one, which is bad in every place.
@@ -35,12 +32,9 @@ fn append_argument<R: Env>(rt: &R, line: &mut [u8], at: usize, k: usize) -> usiz
 pub(crate) fn arguments<R: Env>(rt: &R, line: &mut [u8; 65536]) -> usize
     ensures { IsPrefixLen result line.new }
 {
-    let count = invocation::count(rt);
-    let mut at: usize = 0;
-    let mut k: usize = 1;
-    while k < count {
+    let mut at = 0;
+    for k in 1..invocation::count(rt) {
         at = append_argument(rt, line, at, k);
-        k += 1;
     }
     at
 }

@@ -5,6 +5,7 @@
 
 mod join;
 
+ghost use Rattle.std.specs.Prelude.{IfSome, is_some};
 ghost use Rattle.files.specs.Told.{ByFiles};
 ghost use Rattle.filed.specs.Filed.{on_files};
 ghost use Rattle.named.specs.Words.{words_of};
@@ -14,7 +15,7 @@ ghost use Rattle.flags.specs.Spans.{AllWithin};
 ghost use Rattle.rollout.specs.Program.{ShownBy};
 
 use files::Disk;
-use flags::{Plan, Wishes};
+use flags::Wishes;
 use named::Span;
 use report::Said;
 use std::rt::Env;
@@ -41,9 +42,8 @@ fn performed<R: Disk>(rt: &R, line: &[u8], separator: u8, text: &mut [u8; 256]) 
 {
     let plan = flags::planned(line, separator);
     match plan {
-        Plan::Bad(_) => complaint::complaint(line, plan, text),
-        Plan::Missing(_) => complaint::complaint(line, plan, text),
-        Plan::Judge(wishes) => {
+        Err(_) => complaint::complaint(line, plan, text),
+        Ok(wishes) => {
             let said = judge_named(rt, line, wishes);
             report::say(said, text)
         }
@@ -53,26 +53,30 @@ fn performed<R: Disk>(rt: &R, line: &[u8], separator: u8, text: &mut [u8; 256]) 
 fn cut(line: &[u8], span: Span) -> &[u8]
     requires { Within line.now span }
 {
-    let from = span.from;
-    let to = span.to;
-    &line[from..to]
+    &line[span.from..span.to]
+}
+
+// A file that is not wanted has an empty name, which is no file's.
+fn cut_wanted(line: &[u8], span: Option<Span>) -> &[u8]
+    requires { IfSome span (Within line.now) }
+{
+    match span {
+        Some(span) => cut(line, span),
+        None => &line[..0],
+    }
 }
 
 // The files whose names stand in the line.
 fn judge_named<R: Disk>(rt: &R, line: &[u8], wishes: Wishes) -> Said
     requires { AllWithin line.now wishes }
-    ensures { ByFiles (on_files wishes.asked wishes.wanted) result }
+    ensures { ByFiles (on_files wishes.asked (is_some wishes.out)) result }
 {
-    let asked = wishes.asked;
-    let trace = wishes.trace;
-    let table = wishes.table;
-    let out = wishes.out;
     filed::judge_files(
         rt,
-        asked,
-        wishes.wanted,
-        cut(line, trace),
-        cut(line, table),
-        cut(line, out),
+        wishes.asked,
+        wishes.out.is_some(),
+        cut(line, wishes.trace),
+        cut(line, wishes.table),
+        cut_wanted(line, wishes.out),
     )
 }

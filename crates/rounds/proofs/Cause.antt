@@ -1,9 +1,9 @@
 -- Why a record moved: a record that a round moves waits for one that the round before moved.
-use Prim.Native.Nat.{ℕ, zero, suc, ◌≤◌, ◌<◌}
+use Prim.Native.Nat.{ℕ, zero, suc}
 use native.Mathlib.Omega.{arith}
 use mathlib.Core.Path.{◌≡◌, refl}
 use lib.IntN.{pos, ◌+ℤ◌}
-use lib.Signed.{◌≤ℤ◌, ◌<ℤ◌, clash_ℤ}
+use lib.Signed.{◌<ℤ◌, clash_ℤ}
 use Rattle.paper.specs.Clock.{Waits, round}
 use Rattle.rounds.specs.Meaning.{Wait}
 use Rattle.rounds.proofs.Order.{≤ℤ-trans, compare, sum_le}

@@ -1,9 +1,9 @@
 -- "Each next round gives every record the largest of its original, its predecessor's time .. and .. its send's time plus latency":
 -- next is one of the three, and below none.
-use Prim.Native.Nat.{ℕ, ◌≤◌, ◌<◌}
+use Rattle.std.specs.Prelude.{Option, Some, None}
+use Prim.Native.Nat.{ℕ, ◌<◌}
 use native.Mathlib.Omega.{arith}
 use mathlib.Core.Path.{◌≡◌, refl}
-use mathlib.Core.Option.{Option, none, some}
 use lib.IntN.{ℤ, pos, ◌+ℤ◌}
 use lib.Signed.{◌≤ℤ◌, ≤ℤ_refl}
 use Rattle.paper.specs.Clock.{Waits, waited, next}
@@ -11,15 +11,15 @@ use Rattle.rounds.specs.Meaning.{Wait, on_before, on_send, Closed}
 use Rattle.rounds.proofs.Order.{≤ℤ-trans, ≤ℤ-antisym, later_is, sum_le}
 
 module _ (x : ℕ → ℤ) (v : ℕ) (a : ℤ) where
-  waited_is : (P : ℤ → Type 0) (o : Option ℕ) → P a → ((j : ℕ) → o ≡ some j → P (x j +ℤ pos v)) → P (waited x o v a)
-  waited_is P none own wait = own
-  waited_is P (some j) own wait = later_is P a (x j +ℤ pos v) (λ l. own) (λ l. wait j refl)
+  waited_is : (P : ℤ → Type 0) (o : Option ℕ) → P a → ((j : ℕ) → o ≡ Some j → P (x j +ℤ pos v)) → P (waited x o v a)
+  waited_is P None own wait = own
+  waited_is P (Some j) own wait = later_is P a (x j +ℤ pos v) (λ l. own) (λ l. wait j refl)
 
   waited_own : (o : Option ℕ) → a ≤ℤ waited x o v a
-  waited_own none = ≤ℤ_refl a
-  waited_own (some j) = later_is (λ z. a ≤ℤ z) a (x j +ℤ pos v) (λ l. ≤ℤ_refl a) (λ l. l)
+  waited_own None = ≤ℤ_refl a
+  waited_own (Some j) = later_is (λ z. a ≤ℤ z) a (x j +ℤ pos v) (λ l. ≤ℤ_refl a) (λ l. l)
 
-  waited_wait : {o : Option ℕ} (j : ℕ) → o ≡ some j → (x j +ℤ pos v) ≤ℤ waited x o v a
+  waited_wait : {o : Option ℕ} (j : ℕ) → o ≡ Some j → (x j +ℤ pos v) ≤ℤ waited x o v a
   waited_wait j e = rw e (later_is (λ z. (x j +ℤ pos v) ≤ℤ z) a (x j +ℤ pos v) (λ l. l) (λ l. ≤ℤ_refl (x j +ℤ pos v)))
 
 module _ (w : Waits) (x : ℕ → ℤ) (i : ℕ) where

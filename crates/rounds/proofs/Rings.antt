@@ -1,7 +1,7 @@
 -- "Equal times are good": a ring of waits that weigh nothing has times, all of them equal if it binds them all.
+use Rattle.std.specs.Prelude.{Some, None}
 use Prim.Native.Nat.{ℕ, ◌<◌}
 use mathlib.Core.Path.{◌≡◌, refl}
-use mathlib.Core.Option.{none, some}
 use mathlib.Core.List.{List, [], ◌∷◌}
 use lib.ListN.{get_or}
 use lib.IntN.{ℤ, pos}
@@ -22,9 +22,9 @@ abbrev ring : (gaps latencies : List ℕ) → Waits
 ring gaps latencies = record {
   size = 4;
   original = time_at (pos 1 ∷ pos 2 ∷ pos 3 ∷ pos 4 ∷ []);
-  before = λ i. get_or (none ∷ some 0 ∷ none ∷ some 2 ∷ []) i none;
+  before = λ i. get_or (None ∷ Some 0 ∷ None ∷ Some 2 ∷ []) i None;
   gap = λ i. get_or gaps i 0;
-  send = λ i. get_or (some 3 ∷ none ∷ some 1 ∷ none ∷ []) i none;
+  send = λ i. get_or (Some 3 ∷ None ∷ Some 1 ∷ None ∷ []) i None;
   latency = λ i. get_or latencies i 0;
 }
 

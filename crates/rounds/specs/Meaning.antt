@@ -1,12 +1,11 @@
 -- What an answer to the clock condition means, in the paper's words and without the way there.
-use Rattle.std.specs.Prelude.{ℕ, ◌-◌, ◌≤◌, ◌<◌, ◌≡◌, List, ℤ, length}
-use Rattle.std.proofs.Math.Option.{some}
+use Rattle.std.specs.Prelude.{ℕ, ◌-◌, ◌≤◌, ◌<◌, ◌≡◌, List, ℤ, length, Some}
 use Rattle.paper.specs.Clock.{Waits, Sound, Least, Repeats, time_at, Settled, impossible, settled}
 
 -- record i waits for record j, with this weight: j is the record before it on its processor, or its send
 pub data Wait (w : Waits) (i j : ℕ) : ℕ → Type 0 where
-  on_before : w.before i ≡ some j → Wait w i j (w.gap i)
-  on_send : w.send i ≡ some j → Wait w i j (w.latency i)
+  on_before : w.before i ≡ Some j → Wait w i j (w.gap i)
+  on_send : w.send i ≡ Some j → Wait w i j (w.latency i)
 
 -- the records wait for records only
 abbrev pub Closed : Waits → Type 0

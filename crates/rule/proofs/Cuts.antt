@@ -6,9 +6,9 @@ use mathlib.Core.List.{List, [], ◌∷◌}
 use native.Mathlib.Omega.{arith}
 use native.Mathlib.Numerals.{add-one}
 use lib.ListN.{length, take, drop, get_or, drop_of_length-le}
-use lib.Seq.{drop-cons, drop-drop}
+use lib.Seq.{drop-cons, drop-drop, drop-length}
 use lib.Dec.{eqb}
-use borrow.Author.Tests.{eq-eqb, ne_eqb, not-true, not-false}
+use borrow.Author.Tests.{not-true, not-false}
 use Rattle.octets.specs.Octets.{index_of, index_after}
 use Rattle.rule.specs.Words.{is_blank, uncommented, trimmed, word, behind}
 use Rattle.rule.specs.Cursor.{Starts, Ends}
@@ -25,32 +25,17 @@ before_comment (b ∷ l) = go (before_comment l) (eqb b 35)
     go later false = ap (◌∷◌ b) later
 
 -- as the search for the comment tells it
-pub uncommented_is : (l : List ℕ) (end : ℕ) → end ≡ 0 + index_of 35 l → take (end - 0) l ≡ uncommented l
+pub uncommented_is : (l : List ℕ) (end : ℕ) → end ≡ 0 + index_of 35 l → take end l ≡ uncommented l
 uncommented_is l end found =
-    let e : end - 0 ≡ index_of 35 l = omega arith in
+    let e : end ≡ index_of 35 l = omega arith in
     rw e (before_comment l)
-
--- ---- a blank
-
-module _ (b : ℕ) where
-  pub space : b ≡ 32 → true ≡ is_blank b
-  unfolding is_blank
-  space e = rw (eq-eqb b 32 e)
-
-  pub tab : (b ≡ 32 → ⊥) → b ≡ 9 → true ≡ is_blank b
-  unfolding is_blank
-  tab h e = rw (ne_eqb b 32 h, eq-eqb b 9 e)
-
-  pub return : (b ≡ 32 → ⊥) → (b ≡ 9 → ⊥) → eqb b 13 ≡ is_blank b
-  unfolding is_blank
-  return h k = rw (ne_eqb b 32 h, ne_eqb b 9 k)
 
 -- ---- where a word begins
 
 module _ (l : List ℕ) (at i : ℕ) (inv : trimmed (drop i l) ≡ trimmed (drop at l)) where
-  pub start_at_end : length l ≤ i → i ≤ length l → Starts l at i
+  pub start_at_end : length l ≤ i → Starts l at (length l)
   unfolding trimmed
-  start_at_end h k = let none : drop i l ≡ [] = drop_of_length-le l h in record { is = none ∙ rw none at inv; within = k }
+  start_at_end h = let none : drop i l ≡ [] = drop_of_length-le l h in record { is = drop-length l ∙ rw none at inv; within = omega arith }
 
   module _ {told : Bool} (some_left : i < length l) (tells : told ≡ is_blank (get_or l i 0)) where
     pub start_here : not told ≡ true → Starts l at i
@@ -104,11 +89,11 @@ ends_there l at end e h =
     }
 
 module _ (l : List ℕ) (at i : ℕ) (inv : i + word_length (drop i l) ≡ at + word_length (drop at l)) where
-  pub end_at_end : length l ≤ i → i ≤ length l → Ends l at i
+  pub end_at_end : length l ≤ i → i ≤ length l → Ends l at (length l)
   unfolding word_length
   end_at_end h k =
       let none : word_length (drop i l) ≡ 0 = rw (drop_of_length-le l h) in
-      ends_there l at i (omega arith) k
+      ends_there l at (length l) (omega arith) (omega arith)
 
   module _ {told : Bool} (some_left : i < length l) (tells : told ≡ is_blank (get_or l i 0)) where
     here : word_length (drop i l) ≡ cond (is_blank (get_or l i 0)) 0 (suc (word_length (drop (suc i) l)))

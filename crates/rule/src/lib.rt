@@ -14,7 +14,6 @@ ghost use Rattle.rule.specs.Rule.{on_words, meaning_of};
 pub enum Who {
     Every,
     One(usize),
-    Nobody,
 }
 
 // The latency from a sender to a receiver, in microseconds.
@@ -25,29 +24,26 @@ pub struct Rule {
     pub latency: u32,
 }
 
-// What a line says.
+// A line that is neither blank nor three words that can be read.
 #[derive(Clone, Copy)]
-pub enum Meaning {
-    Nothing,
-    Bad,
-    Sets(Rule),
-}
+pub struct BadLine;
 
-// "`#` for a comment to the line's end": what is read ends before it.
-pub fn read_line(line: &[u8]) -> Meaning
+// "`#` for a comment to the line's end": what is read ends before it. A blank line says nothing.
+pub fn read_line(line: &[u8]) -> Result<Option<Rule>, BadLine>
     ensures { result ≡ meaning_of line.now }
 {
     let end = octets::find(line, 0, b'#');
-    read_words(&line[0..end])
+    read_words(&line[..end])
 }
 
 // "blank lines", or three words
-fn read_words(line: &[u8]) -> Meaning
+fn read_words(line: &[u8]) -> Result<Option<Rule>, BadLine>
     ensures { result ≡ on_words (trimmed line.now) }
 {
     let start = words::word_start(line, 0);
     if start == line.len() {
-        return Meaning::Nothing;
+        return Ok(None);
     }
-    three::read_three(line, start)
+    let rule = three::read_three(line, start).ok_or(BadLine)?;
+    Ok(Some(rule))
 }

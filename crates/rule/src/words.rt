@@ -4,16 +4,11 @@ ghost use Rattle.rule.specs.Words.{is_blank};
 ghost use Rattle.rule.specs.Cursor.{Starts, Ends};
 
 // A space, a tab, or the carriage return of a line that ends with two bytes.
+#[tactic(auto, unfolding(crate::specs::Words::is_blank))]
 fn is_blank(b: u8) -> bool
     ensures { result ≡ is_blank b }
 {
-    if b == 32 {
-        return true;
-    }
-    if b == 9 {
-        return true;
-    }
-    b == 13
+    matches!(b, b' ' | b'\t' | b'\r')
 }
 
 // The first place from `at` on that is no blank.
@@ -21,14 +16,12 @@ pub(crate) fn word_start(line: &[u8], at: usize) -> usize
     requires { at ≤ length line.now }
     ensures { Starts line.now at result }
 {
-    let mut i = at;
-    while i < line.len() {
+    for i in at..line.len() {
         if !is_blank(line[i]) {
             return i;
         }
-        i += 1;
     }
-    i
+    line.len()
 }
 
 // The first blank from `at` on.
@@ -36,12 +29,10 @@ pub(crate) fn word_end(line: &[u8], at: usize) -> usize
     requires { at ≤ length line.now }
     ensures { Ends line.now at result }
 {
-    let mut i = at;
-    while i < line.len() {
+    for i in at..line.len() {
         if is_blank(line[i]) {
             return i;
         }
-        i += 1;
     }
-    i
+    line.len()
 }

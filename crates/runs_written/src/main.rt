@@ -6,7 +6,7 @@ const STDOUT: i32 = 1;
 fn main(rt: HostRuntime) {
     shell::run(&rt);
     let mut text = io::large_buffer();
-    let read = files::load(&rt, b"out", &mut text);
-    let n = read.len;
-    io::write_all(STDOUT, &text[..n]);
+    if let Some(n) = files::load(&rt, b"out", &mut text) {
+        io::write_all(STDOUT, &text[..n]);
+    }
 }

@@ -1,20 +1,18 @@
 -- What the sixth change request and its reading say of merging: each a call from the bytes of two traces, with what it comes to, the whole
 -- room afterwards and the program's whole report of it.
-use Rattle.std.specs.Prelude.{ℕ, ◌≡◌, List, [], ◌∷◌, ◌++◌, length, replicate}
+use Rattle.std.specs.Prelude.{ℕ, ◌≡◌, List, [], ◌∷◌, ◌++◌, length, replicate, Result, Ok, Err}
 use Prim.Native.String.{String}
 use Rattle.paper.specs.Columns.{in_line, nowhere}
 use Rattle.paper.specs.Merging.{Merging, Mergence, join, merged_of}
 use Rattle.paper.specs.declared.Fault.{Fault}
-use Rattle.paper.specs.declared.Fault.TheVariants as Fault
-use Rattle.paper.specs.declared.Joint.{Joint}
-use Rattle.paper.specs.declared.Joint.TheVariants as Joint
 use Rattle.paper.specs.declared.Site.{Site}
 use Rattle.paper.specs.declared.Tally.{Tally}
 use Rattle.paper.specs.declared.Which.{Which}
 use Rattle.paper.specs.declared.Which.TheVariants.{Neither, First, Second}
+use Rattle.paper.specs.declared.Unmerged.{Unmerged}
+use Rattle.paper.specs.declared.Joined.{Joined}
 use Rattle.report.specs.Replied.{replied_shown}
 use Rattle.report.specs.declared.Replied.{Replied}
-use Rattle.report.specs.declared.Replied.TheVariants as Replied
 use Rattle.samples.specs.Samples.{joined, entry0, entry1, node0, node1}
 
 -- ---- the traces
@@ -46,21 +44,21 @@ tally listed passed = record { listed = listed; passed = passed }
 abbrev comes_to : ℕ → Tally → Tally → List String → ℕ → Mergence
 comes_to lines a b merged behind =
     record {
-      joint = Joint.Of (record { lines = lines; written = length (joined merged); first = a; second = b });
+      joint = Ok (record { lines = lines; written = length (joined merged); first = a; second = b });
       room = joined merged ++ lent behind;
     }
 
 abbrev refused : Fault → Which → Site → ℕ → Mergence
-refused fault w site room = record { joint = Joint.Refused fault w site; room = lent room }
+refused fault w site room = record { joint = Err (record { fault = fault; which = w; site = site }); room = lent room }
 
 pub record Merge : Type 0 where
   pub call : Merging
   pub comes : Mergence
   pub shows : List String
 
-abbrev replied : Joint → Replied
-replied (Joint.Refused fault w site) = Replied.Refused (merged_of (Joint.Refused fault w site))
-replied (Joint.Of all) = Replied.Merged all
+abbrev replied : Result Joined Unmerged → Replied
+replied (Err why) = Replied.Refused (merged_of (Err why))
+replied (Ok all) = Replied.Merged all
 
 unfoldable pub merges : List Merge
 merges =

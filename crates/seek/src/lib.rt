@@ -9,8 +9,9 @@ ghost use Rattle.clearance.specs.Clearance.{given_of};
 ghost use Rattle.store.specs.Layout.{capacity};
 ghost use Rattle.seek.specs.Sought.{Sought};
 
+use answer::Counts;
 use paper::Asked;
-use reach::Reached;
+use reach::Unreached;
 
 // ---- A place, a gap and a time for each record that a call may list, each array made by a function of its own, so that no other proof meets
 // so many zeros.
@@ -42,7 +43,7 @@ pub fn seek(
     store: &mut [u32],
     sends: &mut [u32],
     times: &mut [i64],
-) -> Reached
+) -> Result<Counts, Unreached>
     ensures { Sought (given_of trace.now latencies.now asked lent) (capacity store.old) (length sends.old) (length times.old) result store.new sends.new times.new }
 {
     let mut before = places();

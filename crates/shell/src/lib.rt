@@ -6,7 +6,7 @@
 ghost use Rattle.files.specs.Told.{ByFiles};
 ghost use Rattle.shell.specs.Program.{said_of};
 
-use arguments::Plan;
+use arguments::Misuse;
 use files::Disk;
 use paper::Fault;
 use report::Said;
@@ -58,10 +58,10 @@ fn performed<R: Disk>(
     ensures { ByFiles (said_of count choice.now) result }
 {
     match arguments::planned(count, choice) {
-        Plan::BadChoice => Said::Answered(answer::refused_nowhere(Fault::BadChoice)),
-        Plan::TooMany => Said::TooMany,
-        Plan::Unnamed => Said::CannotRead,
-        Plan::Judge(choice, wanted) => {
+        Err(Misuse::BadChoice) => Said::Answered(answer::refused_nowhere(Fault::BadChoice)),
+        Err(Misuse::TooMany) => Said::TooMany,
+        Err(Misuse::Unnamed) => Said::CannotRead,
+        Ok((choice, wanted)) => {
             filed::judge_files(
                 rt,
                 arguments::choice_alone(choice),

@@ -1,6 +1,6 @@
 -- What is shown of a trace, by how far the call came.
-use Prim.Native.Nat.{ℕ, ◌-◌, ◌/◌, ◌≤◌, ◌<◌}
-use native.Mathlib.Nat.{sub-zero}
+use Rattle.std.specs.Prelude.{Result, Ok, Err}
+use Prim.Native.Nat.{ℕ, ◌/◌, ◌≤◌, ◌<◌}
 use native.Mathlib.Omega.{arith}
 use mathlib.Core.Path.{◌≡◌, refl}
 use mathlib.Core.Bool.{true}
@@ -13,13 +13,10 @@ use Rattle.paper.specs.Answer.{Found, found, reach}
 use Rattle.paper.specs.Filling.{query, Query, judged}
 use Rattle.paper.specs.declared.Answer.{Answer}
 use Rattle.paper.specs.declared.Asked.{Asked}
-use Rattle.paper.specs.declared.Fault.{Fault}
-use Rattle.paper.specs.declared.Site.{Site}
+use Rattle.paper.specs.declared.Refusal.{Refusal}
 use Rattle.store.specs.Layout.{entries_in}
 use Rattle.answer.specs.Answers.{refusal}
 use Rattle.answer.specs.declared.Counts.{Counts}
-use Rattle.reach.specs.declared.Reached.{Reached}
-use Rattle.reach.specs.declared.Reached.TheVariants.{Times, Refused, Misfit}
 use Rattle.reach.specs.Reach.{Held, reaches}
 use Rattle.reach.proofs.Means.{found_means}
 use Rattle.listing.proofs.Senders.{same_messages}
@@ -32,30 +29,31 @@ use Rattle.chain.specs.Call.{Places}
 use Rattle.showing.specs.Inner.{ConcludedBy}
 use Rattle.showing.specs.declared.Shows.{Shows}
 use Rattle.showing.specs.declared.Shows.TheVariants.{Messages, Reasons}
+use Rattle.reach.specs.declared.Unreached.{Unreached}
 
 -- ---- a place for each record
 
-pub few_taken : {listed : ℕ} {sends : List ℕ} {new : List ℤ} → Places listed new sends → length (take (listed - 0) new) ≤ 2048
-few_taken {listed} {new = new} p = rw (sub-zero listed, length-take-le listed new p.with_times) p.few
+pub few_taken : {listed : ℕ} {sends : List ℕ} {new : List ℤ} → Places listed new sends → length (take listed new) ≤ 2048
+few_taken {listed} {new = new} p = rw (length-take-le listed new p.with_times) p.few
 
 -- ---- the ends
 
-module _ (shows : Shows) (asked : Asked) (trace latencies line : List ℕ) (reached : Reached) (store sends : List ℕ) (new : List ℤ) (room : List ℕ) where
+module _ (shows : Shows) (asked : Asked) (trace latencies line : List ℕ) (reached : Result Counts Unreached) (store sends : List ℕ) (new : List ℤ) (room : List ℕ) where
   abbrev q : Query
   q = query trace latencies asked
 
-  pub refused_told : {fault : Fault} {site : Site} {answer : Answer} {end : ℕ} {after : List ℕ} → reached ≡ Refused fault site
-      → answer ≡ refusal fault site
+  pub refused_told : (why : Refusal) {stop : Unreached} {answer : Answer} {end : ℕ} {after : List ℕ} → reached ≡ Err stop → stop ≡ Unreached.Refused why
+      → answer ≡ refusal why.fault why.site
       → Put room 0 (said_shown (Said.Answered answer)) end after
       → ConcludedBy shows asked trace latencies line reached store sends new room end after
   unfolding ConcludedBy reaches on_trace on_reached
-  refused_told e a p = λ says. rw (rw e at says, ← a) p
+  refused_told why e s a p = λ says. rw (rw (e, s) at says, ← a) p
 
-  pub never_told : (end : ℕ) (after : List ℕ) → reached ≡ Misfit → ConcludedBy shows asked trace latencies line reached store sends new room end after
+  pub never_told : (end : ℕ) (after : List ℕ) {stop : Unreached} → reached ≡ Err stop → stop ≡ Unreached.Misfit → ConcludedBy shows asked trace latencies line reached store sends new room end after
   unfolding ConcludedBy reaches
-  never_told end after e = λ says. absurd (rw e at says)
+  never_told end after e s = λ says. absurd (rw (e, s) at says)
 
-  module _ (counts : Counts) (e : reached ≡ Times counts) (p : Places counts.listed new sends) (wide : Wide room) where
+  module _ (counts : Counts) (e : reached ≡ Ok counts) (p : Places counts.listed new sends) (wide : Wide room) where
     abbrev n : ℕ
     n = counts.listed
 
@@ -72,27 +70,27 @@ module _ (shows : Shows) (asked : Asked) (trace latencies line : List ℕ) (reac
           let h : n < length room / 256 = omega (arith, p.few, wide) in
           rw (long, many, eq-eqb n n refl, lt-ltb n (length room / 256) h)
 
-      mail : {end : ℕ} {after : List ℕ} → DeliveredInto store (take (n - 0) sends) (take (n - 0) new) room end after
+      mail : {end : ℕ} {after : List ℕ} → DeliveredInto store (take n sends) (take n new) room end after
           → Put room 0 (shown_of Messages q line f) end after
       unfolding shown_of pairs_in
       mail d =
-          let there = rw long at ((rw (sub-zero n) at d).there fit) in
+          let there = rw long at (d.there fit) in
           rw (← same_messages f.reading.entries asked.share latencies, ← held.places, ← held.new, ← held.entries) there
 
       chained : {end : ℕ} {after : List ℕ}
-          → (asked.share ≤ 1000 → Put room 0 (on_line q line (entries_in store (length (take (n - 0) new))) (take (n - 0) new)) end after)
+          → (asked.share ≤ 1000 → Put room 0 (on_line q line (entries_in store (length (take n new))) (take n new)) end after)
           → Put room 0 (shown_of Reasons q line f) end after
       unfolding shown_of judged
-      chained put = let there = rw (sub-zero n, long, held.entries, held.new) at (put (found_means (judged q) f is).share) in there
+      chained put = let there = rw (long, held.entries, held.new) at (put (found_means (judged q) f is).share) in there
 
     pub messages_told : shows ≡ Messages → {end : ℕ} {after : List ℕ}
-        → DeliveredInto store (take (n - 0) sends) (take (n - 0) new) room end after
+        → DeliveredInto store (take n sends) (take n new) room end after
         → ConcludedBy shows asked trace latencies line reached store sends new room end after
     unfolding ConcludedBy reaches on_trace on_reached
     messages_told s d = λ says. let (f, is, held) = rw e at says in rw (is, s) (mail f is held d)
 
     pub chain_told : shows ≡ Reasons → {end : ℕ} {after : List ℕ}
-        → (asked.share ≤ 1000 → Put room 0 (on_line q line (entries_in store (length (take (n - 0) new))) (take (n - 0) new)) end after)
+        → (asked.share ≤ 1000 → Put room 0 (on_line q line (entries_in store (length (take n new))) (take n new)) end after)
         → ConcludedBy shows asked trace latencies line reached store sends new room end after
     unfolding ConcludedBy reaches on_trace on_reached
     chain_told s put = λ says. let (f, is, held) = rw e at says in rw (is, s) (chained f is held put)

@@ -1,6 +1,5 @@
 -- What the call that tells a chain came to, as text.
-use Prim.Native.Nat.{ℕ, ◌-◌, ◌/◌, ◌≤◌}
-use native.Mathlib.Nat.{sub-zero}
+use Prim.Native.Nat.{ℕ, ◌/◌, ◌≤◌}
 use native.Mathlib.Omega.{arith}
 use mathlib.Core.Path.{◌≡◌, refl, sym, ◌∙◌}
 use mathlib.Core.Bool.{Bool, true, false, cond}
@@ -67,18 +66,18 @@ module _ (store : List ℕ) {n : ℕ} (part post : List ℕ) (long : length part
 module _ (share : ℕ) (latencies : List ℕ) (es : List Entry) (times : List ℤ) (chain : List ℕ) where
   pub chain_told : (n : ℕ) (before gap latency : List ℕ) {room after : List ℕ} {end : ℕ}
       → take n before ≡ befores_of es
-      → (share ≤ 1000 → take n gap ≡ gaps_by share es (take (n - 0) before))
+      → (share ≤ 1000 → take n gap ≡ gaps_by share es (take n before))
       → take n latency ≡ latencies_of latencies es
       → length chain ≤ 2048
       → Wide room
-      → ReasonsInto (reasons_of es times (take (n - 0) before) (take (n - 0) gap) (take (n - 0) latency) chain) (length chain) room end after
+      → ReasonsInto (reasons_of es times (take n before) (take n gap) (take n latency) chain) (length chain) room end after
       → share ≤ 1000
       → Put room 0 (chain_shown share latencies es times chain) end after
   unfolding chain_shown Wide
   chain_told n before gap latency {room = room} b g l few wide into low =
       let h : length chain ≤ length room / 256 = omega arith in
-      let k : take n gap ≡ gaps_of share es = rw (sub-zero n, b) at (g low) ∙ gaps_are share es in
-      let q = rw (sub-zero n, b, k, l) at (into.there h) in q
+      let k : take n gap ≡ gaps_of share es = rw b at (g low) ∙ gaps_are share es in
+      let q = rw (b, k, l) at (into.there h) in q
 
   module _ (f : Filled) {room after : List ℕ} {end : ℕ} where
     pub refusal_told : (f.number ≡ 0 → ⊥) → {answer : Answer} → answer ≡ answer_of f → Put room 0 (said_shown (Said.Answered answer)) end after

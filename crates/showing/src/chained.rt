@@ -26,7 +26,7 @@ fn befores(store: &[u32], n: usize) -> [u32; 2048]
     ensures { take n result ≡ befores_of (entries_in store.now n) }
 {
     let mut table = seek::places();
-    waits::befores_into(store, &mut table[0..n]);
+    waits::befores_into(store, &mut table[..n]);
     table
 }
 
@@ -36,7 +36,7 @@ fn gaps(store: &[u32], share: u32, before: &[u32], n: usize) -> [u64; 2048]
     ensures { share ≤ 1000 → take n result ≡ gaps_by share (entries_in store.now n) before.now }
 {
     let mut table = zeros();
-    waits::gaps_into(store, share, before, &mut table[0..n]);
+    waits::gaps_into(store, share, before, &mut table[..n]);
     table
 }
 
@@ -46,7 +46,7 @@ fn latencies_of(store: &[u32], latencies: &[u32], n: usize) -> [u32; 2048]
     ensures { take n result ≡ latencies_of latencies.now (entries_in store.now n) }
 {
     let mut table = seek::places();
-    waits::latencies_into(store, latencies, &mut table[0..n]);
+    waits::latencies_into(store, latencies, &mut table[..n]);
     table
 }
 
@@ -63,14 +63,14 @@ fn put_chain(
 {
     let n = times.len();
     let before = befores(store, n);
-    let gap = gaps(store, share, &before[0..n], n);
+    let gap = gaps(store, share, &before[..n], n);
     let latency = latencies_of(store, latencies, n);
     reasons::put_reasons(
         store,
         times,
-        &before[0..n],
-        &gap[0..n],
-        &latency[0..n],
+        &before[..n],
+        &gap[..n],
+        &latency[..n],
         chain,
         room,
     )

@@ -5,12 +5,13 @@ ghost use Rattle.chain.specs.Call.{WithPlaces};
 ghost use Rattle.showing.specs.Inner.{ConcludedBy};
 
 use crate::{Shows, chained, speak};
+use answer::Counts;
 use paper::{Asked, Fault};
-use reach::Reached;
+use reach::Unreached;
 use report::Said;
 
 fn concluded(
-    reached: Reached,
+    reached: Result<Counts, Unreached>,
     shows: Shows,
     asked: Asked,
     trace: &[u8],
@@ -25,22 +26,20 @@ fn concluded(
     ensures { ConcludedBy shows asked trace.now latencies.now line.now reached store.now sends.now new.now room.old result room.new }
 {
     match reached {
-        Reached::Times(counts) => {
+        Ok(counts) => {
             let n = counts.listed;
             match shows {
-                Shows::Messages => {
-                    deliveries::put_messages(store, &sends[0..n], &new[0..n], room)
-                }
+                Shows::Messages => { deliveries::put_messages(store, &sends[..n], &new[..n], room) }
                 Shows::Reasons => {
-                    chained::of_line(asked, trace, latencies, line, store, &new[0..n], room)
+                    chained::of_line(asked, trace, latencies, line, store, &new[..n], room)
                 }
             }
         }
-        Reached::Refused(fault, site) => {
-            speak::say_into(Said::Answered(answer::refused(fault, site)), room)
+        Err(Unreached::Refused(why)) => {
+            speak::say_into(Said::Answered(answer::refused(why.fault, why.site)), room)
         }
         // never: the slices of a call are made for as many records as it may list
-        Reached::Misfit => {
+        Err(Unreached::Misfit) => {
             speak::say_into(
                 Said::Answered(answer::refused_nowhere(Fault::NoTimes)),
                 room,

@@ -1,5 +1,6 @@
 -- What the statements of the public functions come to for a caller: any two outcomes that a statement allows are the same, and
 -- what each answer of `write_time` says.
+use Rattle.std.specs.Prelude.{Result, Ok, Err}
 use Prim.Native.Nat.{ℕ, ◌+◌, ◌≤◌, ◌<◌}
 use mathlib.Core.Path.{◌≡◌, refl, sym, ◌∙◌}
 use mathlib.Core.List.{List, ◌++◌}
@@ -11,13 +12,12 @@ use lib.IntN.{ℤ, nat_abs}
 use lib.Dec.{leb}
 use borrow.Author.Tests.{leb-true, leb-false}
 use Rattle.paper.specs.Forms.{time_shown}
-use Rattle.shown.specs.declared.Put.{Put}
-use Rattle.shown.specs.declared.Put.TheVariants.{At, NoRoom, NoTime}
 use Rattle.shown.specs.Writes.{put_of, room_after, time_put, TimePut, shown_length}
+use Rattle.shown.specs.declared.Unput.{Unput}
 
 -- ---- one outcome
 
-pub one_time_put : {room : List ℕ} {at : ℕ} {z : ℤ} {r q : Put} {a b : List ℕ} → TimePut room at z r a → TimePut room at z q b → (r ≡ q) × (a ≡ b)
+pub one_time_put : {room : List ℕ} {at : ℕ} {z : ℤ} {r q : Result ℕ Unput} {a b : List ℕ} → TimePut room at z r a → TimePut room at z q b → (r ≡ q) × (a ≡ b)
 one_time_put p q =
     let e = p.answer ∙ sym q.answer in
     (e, p.holds ∙ rw e (sym q.holds))
@@ -35,17 +35,17 @@ pub record Stored (room : List ℕ) (at : ℕ) (z : ℤ) (end : ℕ) (after : Li
   pub holds : after ≡ take at room ++ time_shown z ++ drop end room
 
 -- the answer says how the two tests went
-at_chosen : (t u : Bool) (k : ℕ) {end : ℕ} → At end ≡ cond t (cond u (At k) NoRoom) NoTime → (t ≡ true) × (u ≡ true) × (end ≡ k)
+at_chosen : (t u : Bool) (k : ℕ) {end : ℕ} → Ok end ≡ cond t (cond u (Ok k) (Err Unput.NoRoom)) (Err Unput.NoTime) → (t ≡ true) × (u ≡ true) × (end ≡ k)
 at_chosen true true k e = (refl, refl, cc)
 at_chosen true false k e = (cc, cc, cc)
 at_chosen false u k e = (cc, cc, cc)
 
-room_chosen : (t u : Bool) (k : ℕ) → NoRoom ≡ cond t (cond u (At k) NoRoom) NoTime → (t ≡ true) × (u ≡ false)
+room_chosen : (t u : Bool) (k : ℕ) → (Err Unput.NoRoom) ≡ cond t (cond u (Ok k) (Err Unput.NoRoom)) (Err Unput.NoTime) → (t ≡ true) × (u ≡ false)
 room_chosen true true k e = (cc, cc)
 room_chosen true false k e = (refl, refl)
 room_chosen false u k e = (cc, cc)
 
-time_chosen : (t u : Bool) (k : ℕ) → NoTime ≡ cond t (cond u (At k) NoRoom) NoTime → t ≡ false
+time_chosen : (t u : Bool) (k : ℕ) → (Err Unput.NoTime) ≡ cond t (cond u (Ok k) (Err Unput.NoRoom)) (Err Unput.NoTime) → t ≡ false
 time_chosen true true k e = cc
 time_chosen true false k e = cc
 time_chosen false u k e = refl
@@ -57,7 +57,7 @@ module _ (room : List ℕ) (at : ℕ) (z : ℤ) where
   abbrev in_room : Bool
   in_room = leb (at + length (time_shown z)) (length room)
 
-  pub put_at : {r : Put} {after : List ℕ} {end : ℕ} → TimePut room at z r after → r ≡ At end → Stored room at z end after
+  pub put_at : {r : Result ℕ Unput} {after : List ℕ} {end : ℕ} → TimePut room at z r after → r ≡ Ok end → Stored room at z end after
   unfolding time_put put_of room_after
   put_at p e =
       let c = at_chosen in_time in_room (at + length (time_shown z)) (sym e ∙ p.answer) in
@@ -68,11 +68,11 @@ module _ (room : List ℕ) (at : ℕ) (z : ℤ) where
         holds = rw e at p.holds;
       }
 
-  pub put_no_room : {r : Put} {after : List ℕ} → TimePut room at z r after → r ≡ NoRoom → (length room < at + length (time_shown z)) × (after ≡ room)
+  pub put_no_room : {r : Result ℕ Unput} {after : List ℕ} → TimePut room at z r after → r ≡ (Err Unput.NoRoom) → (length room < at + length (time_shown z)) × (after ≡ room)
   unfolding time_put put_of room_after
   put_no_room p e = (leb-false (at + length (time_shown z)) (length room) (room_chosen in_time in_room (at + length (time_shown z)) (sym e ∙ p.answer)).1, rw e at p.holds)
 
-  pub put_no_time : {r : Put} {after : List ℕ} → TimePut room at z r after → r ≡ NoTime → (999999999999999 < nat_abs z) × (after ≡ room)
+  pub put_no_time : {r : Result ℕ Unput} {after : List ℕ} → TimePut room at z r after → r ≡ (Err Unput.NoTime) → (999999999999999 < nat_abs z) × (after ≡ room)
   unfolding time_put put_of room_after
   put_no_time p e = (leb-false (nat_abs z) 999999999999999 (time_chosen in_time in_room (at + length (time_shown z)) (sym e ∙ p.answer)), rw e at p.holds)
 

@@ -1,28 +1,27 @@
 -- What `write_time` answers, and what it leaves in the room that was lent to it.
-use Rattle.std.specs.Prelude.{ℕ, ◌+◌, ◌≡◌, List, ◌++◌, cond, length, take, drop, ℤ, nat_abs, leb}
+use Rattle.std.specs.Prelude.{ℕ, ◌+◌, ◌≡◌, List, ◌++◌, cond, length, take, drop, ℤ, nat_abs, leb, Result, Ok, Err}
 use Rattle.paper.specs.Forms.{time_shown}
-use Rattle.shown.specs.declared.Put.{Put}
-use Rattle.shown.specs.declared.Put.TheVariants.{At, NoRoom, NoTime}
+use Rattle.shown.specs.declared.Unput.{Unput}
 
 -- a word put at `at`: the place behind it, where the room reaches so far
-unfoldable pub put_of : List ℕ → ℕ → List ℕ → Put
-put_of room at word = cond (leb (at + length word) (length room)) (At (at + length word)) NoRoom
+unfoldable pub put_of : List ℕ → ℕ → List ℕ → Result ℕ Unput
+put_of room at word = cond (leb (at + length word) (length room)) (Ok (at + length word)) (Err Unput.NoRoom)
 
 -- the room afterwards: the word in its place and all else as it was, or nothing touched
-unfoldable pub room_after : Put → List ℕ → ℕ → List ℕ → List ℕ
-room_after (At end) room at word = take at room ++ word ++ drop end room
-room_after NoRoom room at word = room
-room_after NoTime room at word = room
+unfoldable pub room_after : Result ℕ Unput → List ℕ → ℕ → List ℕ → List ℕ
+room_after (Ok end) room at word = take at room ++ word ++ drop end room
+room_after (Err Unput.NoRoom) room at word = room
+room_after (Err Unput.NoTime) room at word = room
 
-pub record WordPut (room : List ℕ) (at : ℕ) (word : List ℕ) (r : Put) (after : List ℕ) : Type 0 where
+pub record WordPut (room : List ℕ) (at : ℕ) (word : List ℕ) (r : Result ℕ Unput) (after : List ℕ) : Type 0 where
   pub answer : r ≡ put_of room at word
   pub holds : after ≡ room_after r room at word
 
 -- the same for a time, which is none above 999,999,999,999,999 on either side of zero
-unfoldable pub time_put : List ℕ → ℕ → ℤ → Put
-time_put room at time = cond (leb (nat_abs time) 999999999999999) (put_of room at (time_shown time)) NoTime
+unfoldable pub time_put : List ℕ → ℕ → ℤ → Result ℕ Unput
+time_put room at time = cond (leb (nat_abs time) 999999999999999) (put_of room at (time_shown time)) (Err Unput.NoTime)
 
-pub record TimePut (room : List ℕ) (at : ℕ) (time : ℤ) (r : Put) (after : List ℕ) : Type 0 where
+pub record TimePut (room : List ℕ) (at : ℕ) (time : ℤ) (r : Result ℕ Unput) (after : List ℕ) : Type 0 where
   pub answer : r ≡ time_put room at time
   pub holds : after ≡ room_after r room at (time_shown time)
 

@@ -7,33 +7,30 @@ mod write;
 ghost use Rattle.std.specs.Prelude.{◌≡◌};
 ghost use Rattle.shown.specs.Writes.{shown_length, TimePut};
 
-use forms::Size;
-
-// What a write comes to: the place behind what was written, or why nothing was.
+// Why nothing was written.
 #[derive(Clone, Copy)]
-pub enum Put {
-    At(usize),
+pub enum Unput {
     NoRoom,
     NoTime,
 }
 
 // A time written at `at`, in the form that `read_time` reads. Nothing is touched where the room is too short for it, or where
 // it is above 999,999,999,999,999 on either side of zero and so has no such form.
-pub fn write_time(room: &mut [u8], at: usize, time: i64) -> Put
+pub fn write_time(room: &mut [u8], at: usize, time: i64) -> Result<usize, Unput>
     ensures { TimePut room.old at time result room.new }
 {
-    match write::size_of(time) {
-        Size::Of(size) => write::put_signed(room, at, time < 0, size),
-        Size::Bad => Put::NoTime,
-    }
+    let Some(size) = write::size_of(time) else {
+        return Err(Unput::NoTime);
+    };
+    write::put_signed(room, at, time < 0, size)
 }
 
 // How many bytes `write_time` takes for a time: 0 for one that has no form.
 pub fn shown_length(time: i64) -> usize
     ensures { result ≡ shown_length time }
 {
-    match write::size_of(time) {
-        Size::Of(size) => write::signed_length(time < 0, size),
-        Size::Bad => 0,
-    }
+    let Some(size) = write::size_of(time) else {
+        return 0;
+    };
+    write::signed_length(time < 0, size)
 }

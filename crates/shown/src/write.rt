@@ -1,30 +1,22 @@
 // The parts of a time that is written: its sign, its whole seconds, a point and six digits.
 ghost use Rattle.std.specs.Prelude.{◌≡◌, ◌++◌, ◌+◌, ◌/◌, ◌≤◌, ◌<◌, ◌^◌, length, nat_abs};
-ghost use Rattle.std.proofs.Math.Option.{some};
 ghost use Rattle.std.proofs.lemmas.List.Edits.{sets};
 ghost use Rattle.paper.specs.Forms.{at_most, fixed, places_from, size_shown};
-ghost use Rattle.forms.specs.Sizes.{number, sign_shown};
+ghost use Rattle.forms.specs.Sizes.{sign_shown};
 ghost use Rattle.shown.specs.Writes.{WordPut};
 
-use crate::Put;
-use forms::Size;
+use crate::Unput;
 
 // The size of a time that the format holds.
-pub(crate) fn size_of(time: i64) -> Size
-    ensures { number result ≡ at_most 999999999999999 (some (nat_abs time)) }
+#[tactic(auto, unfolding(paper::specs::Forms::at_most))]
+pub(crate) fn size_of(time: i64) -> Option<u64>
+    ensures { result ≡ at_most 999999999999999 (Some (nat_abs time)) }
 {
-    if time < 0 {
-        if time < -999_999_999_999_999 {
-            return Size::Bad;
-        }
-        let size = -time;
-        Size::Of(size as u64)
-    } else {
-        if 999_999_999_999_999 < time {
-            return Size::Bad;
-        }
-        Size::Of(time as u64)
+    let size = time.unsigned_abs();
+    if 999_999_999_999_999 < size {
+        return None;
     }
+    Some(size)
 }
 
 // How many digits n has.
@@ -32,13 +24,14 @@ fn places(n: u64) -> usize
     requires { n < 10 ^ 9 }
     ensures { result ≡ places_from 8 n }
 {
-    let mut k: usize = 1;
     let mut power: u64 = 10;
-    while power <= n {
-        k += 1;
-        power = power * 10;
+    for k in 1..9 {
+        if n < power {
+            return k;
+        }
+        power *= 10;
     }
-    k
+    9
 }
 
 // The last k digits of n, from the right to the left.
@@ -46,12 +39,10 @@ fn put_digits(room: &mut [u8], at: usize, k: usize, n: u64)
     requires { at + k ≤ length room.old }
     ensures { room.new ≡ sets room.old at (fixed k n) }
 {
-    let mut i = k;
     let mut rest = n;
-    while 0 < i {
-        i -= 1;
-        room[at + i] = (rest % 10) as u8 + 48;
-        rest = rest / 10;
+    for i in (0..k).rev() {
+        room[at + i] = (rest % 10) as u8 + b'0';
+        rest /= 10;
     }
 }
 
@@ -76,7 +67,7 @@ fn put_sign(room: &mut [u8], at: usize, minus: bool)
 fn sign_length(minus: bool) -> usize
     ensures { result ≡ length (sign_shown minus) }
 {
-    if minus { 1 } else { 0 }
+    usize::from(minus)
 }
 
 // How many bytes a sign and a size take.
@@ -90,20 +81,20 @@ pub(crate) fn signed_length(minus: bool, size: u64) -> usize
 }
 
 // A time by its sign and its size, which are written only where there is room for both.
-pub(crate) fn put_signed(room: &mut [u8], at: usize, minus: bool, size: u64) -> Put
+pub(crate) fn put_signed(room: &mut [u8], at: usize, minus: bool, size: u64) -> Result<usize, Unput>
     requires { size ≤ 999999999999999 }
     ensures { WordPut room.old at (sign_shown minus ++ size_shown size) result room.new }
 {
     if room.len() < at {
-        return Put::NoRoom;
+        return Err(Unput::NoRoom);
     }
     let k = places(size / 1_000_000);
     let sign = sign_length(minus);
     let n = sign + k + 7;
     if room.len() - at < n {
-        return Put::NoRoom;
+        return Err(Unput::NoRoom);
     }
     put_sign(room, at, minus);
     put_size(room, at + sign, k, size);
-    Put::At(at + n)
+    Ok(at + n)
 }

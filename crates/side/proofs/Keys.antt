@@ -1,13 +1,12 @@
--- Two keys compared as the code does it, and the bucket of a key.
+-- Two keys compared by `==`, and the bucket of a key.
+use Rattle.std.specs.Ordering.{int_eq}
+use Rattle.std.proofs.lemmas.Bool.Decides.{same_from_decides, Decides-int_eq}
 use Prim.Native.Nat.{ℕ, ◌+◌, ◌*◌, ◌%◌, ◌<◌}
 use native.Mathlib.Omega.{arith}
-use mathlib.Core.Path.{◌≡◌, refl, sym, ap, ◌∙◌}
-use mathlib.Core.Bool.{Bool, true, false}
-use borrow.Author.Tests.{eqb-true, eqb-false, eq-eqb, ne_eqb}
+use mathlib.Core.Path.{◌≡◌, refl, ap}
+use mathlib.Core.Bool.{Bool, true, false, ◌&&◌}
 use lib.Dec.{eqb}
 use lib.IntN.{ℤ}
-use mir.Syntax.{w64}
-use mir.Val.{to_z, of_z}
 use Rattle.paper.specs.Tests.{eq_z}
 use Rattle.paper.specs.Matching as Paper
 use Rattle.paper.specs.Matching.{same_key}
@@ -16,29 +15,16 @@ use Rattle.signed.specs.Codes.{code_of}
 use Rattle.side.specs.declared.Key.{Key}
 use Rattle.side.specs.Sides.{key_of, bucket_of}
 
--- two tags are compared by their bits
-tags : (a b : ℤ) → to_z w64 (of_z w64 a) ≡ a → to_z w64 (of_z w64 b) ≡ b → eqb (of_z w64 a) (of_z w64 b) ≡ eq_z a b
-tags a b ha hb = go (eqb (of_z w64 a) (of_z w64 b)) refl (eq_z a b) refl
-  where
-    go : (s : Bool) → eqb (of_z w64 a) (of_z w64 b) ≡ s → (t : Bool) → eq_z a b ≡ t → s ≡ t
-    go true e true f = refl
-    go true e false f =
-        let same : a ≡ b = sym ha ∙ ap (to_z w64) (eqb-true (of_z w64 a) (of_z w64 b) e) ∙ hb in
-        sym (eq_z_same b) ∙ rw same at f
-    go false e true f = absurd (eqb-false (of_z w64 a) (of_z w64 b) e (ap (of_z w64) (eq_z_true a b f)))
-    go false e false f = refl
+-- `==` of two keys is the paper's test
+and_assoc : (a b c : Bool) → (a && (b && c)) ≡ ((a && b) && c)
+and_assoc true b c = refl
+and_assoc false b c = refl
 
-module _ (a b : Key) where
-  pub senders_differ : (a.sender ≡ b.sender → ⊥) → false ≡ same_key (key_of a) (key_of b)
-  senders_differ h = rw (ne_eqb a.sender b.sender h)
+tags : (a b : ℤ) → int_eq a b ≡ eq_z a b
+tags a b = same_from_decides (int_eq a b) (eq_z a b) (Decides-int_eq a b) (eq_z_true a b, λ e. rw e (eq_z_same b))
 
-  pub receivers_differ : a.sender ≡ b.sender → (a.receiver ≡ b.receiver → ⊥) → false ≡ same_key (key_of a) (key_of b)
-  receivers_differ e h = rw (eq-eqb a.sender b.sender e, ne_eqb a.receiver b.receiver h)
-
-  pub tags_decide : a.sender ≡ b.sender → a.receiver ≡ b.receiver → to_z w64 (of_z w64 a.tag) ≡ a.tag
-      → to_z w64 (of_z w64 b.tag) ≡ b.tag → eqb (of_z w64 a.tag) (of_z w64 b.tag) ≡ same_key (key_of a) (key_of b)
-  tags_decide e f ha hb =
-      rw (eq-eqb a.sender b.sender e, eq-eqb a.receiver b.receiver f) (tags a.tag b.tag ha hb)
+pub keys_told : (a b : Key) → (eqb a.sender b.sender && (eqb a.receiver b.receiver && int_eq a.tag b.tag)) ≡ same_key (key_of a) (key_of b)
+keys_told a b = rw (tags a.tag b.tag) (and_assoc (eqb a.sender b.sender) (eqb a.receiver b.receiver) (eq_z a.tag b.tag))
 
 pub bucket_is : (k : Key) {n : ℕ} {t : ℤ} → n ≡ code_of t → t ≡ k.tag
     → (k.sender % 64 * 64 + k.receiver % 64 + n % 1024 * 37) % 1024 ≡ bucket_of k

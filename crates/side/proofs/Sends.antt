@@ -1,14 +1,13 @@
 -- The send of an entry, by its side.
+use Rattle.std.specs.Prelude.{Option, None}
 use Prim.Native.Nat.{ℕ}
 use mathlib.Core.Path.{◌≡◌, refl, ◌∙◌}
 use mathlib.Core.Bool.{true, false≢true}
-use mathlib.Core.Option.{Option, none}
 use mathlib.Core.List.{List}
 use lib.ListN.{take}
 use Rattle.paper.specs.Matching.{count_if, is_receive_of, send_place, send_for}
 use Rattle.paper.specs.declared.Entry.{Entry}
 use Rattle.paper.specs.declared.Role.{Role}
-use Rattle.paper.specs.declared.Role.TheVariants as Role
 use Rattle.matching.proofs.Keys.{same_key_lem}
 use Rattle.side.specs.declared.Key.{Key}
 use Rattle.side.specs.declared.Side.{Side}
@@ -17,8 +16,8 @@ use Rattle.side.specs.Sides.{key_of, side_for, side_at, receive_under}
 use Rattle.side.proofs.Sides.{receives_by, receive_by}
 
 abbrev pub send_by : List Entry → ℕ → Side → Option ℕ
-send_by es i Neither = none
-send_by es i (Sends k) = none
+send_by es i Neither = None
+send_by es i (Sends k) = None
 send_by es i (Receives k) = send_place (key_of k) (count_if (is_receive_of (key_of k)) (take i es)) es
 
 pub send_for_side : (es : List Entry) (i processor : ℕ) (r : Role) → send_for es i processor r ≡ send_by es i (side_for processor r)

@@ -3,12 +3,12 @@ use Prim.Native.Nat.{ℕ}
 use mathlib.Core.Path.{◌≡◌, refl, sym, ap, ◌∙◌}
 use mathlib.Core.Bool.{Bool, false}
 use mathlib.Core.List.{List}
+use mathlib.Core.Logic.{◌⊎◌, inl, inr}
 use lib.IntN.{ℤ}
 use Rattle.paper.specs.Matching as Paper
 use Rattle.paper.specs.Matching.{same_key, sends_under, receives_under}
 use Rattle.paper.specs.declared.Message.{Message}
 use Rattle.paper.specs.declared.Role.{Role}
-use Rattle.paper.specs.declared.Role.TheVariants as Role
 use Rattle.store.specs.Layout.{entry_from}
 use Rattle.side.specs.declared.Key.{Key}
 use Rattle.side.specs.declared.Side.{Side}
@@ -58,3 +58,11 @@ module _ (l : List ℕ) (key : Key) (i : ℕ) where
   unfolding side_at
   receive_by e f =
       ap (receives_by (key_of key)) (sym f ∙ e) ∙ sym (receives_for (key_of key) (entry_from l i).body.processor (entry_from l i).body.role)
+
+  pub not_send_by : {side : Side} → side ≡ side_at l i → (side ≡ Neither) ⊎ ((k : Key) × side ≡ Receives k) → false ≡ send_under l key i
+  not_send_by e (inl f) = send_by e f
+  not_send_by e (inr (k, f)) = send_by e f
+
+  pub not_receive_by : {side : Side} → side ≡ side_at l i → (side ≡ Neither) ⊎ ((k : Key) × side ≡ Sends k) → false ≡ receive_under l key i
+  not_receive_by e (inl f) = receive_by e f
+  not_receive_by e (inr (k, f)) = receive_by e f

@@ -2,7 +2,6 @@
 use Rattle.std.specs.Prelude.{◌≡◌, ℕ, ◌+◌, ◌*◌, ◌%◌, ◌<◌, Bool, false, List, eqb}
 use Rattle.paper.specs.Matching as Paper
 use Rattle.paper.specs.declared.Role.{Role}
-use Rattle.paper.specs.declared.Role.TheVariants as Role
 use Rattle.store.specs.Layout.{entry_from}
 use Rattle.signed.specs.Codes.{code_of}
 use Rattle.side.specs.declared.Key.{Key}

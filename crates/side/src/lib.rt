@@ -2,13 +2,12 @@
 #![tactic(auto)]
 
 ghost use Rattle.std.specs.Prelude.{◌≡◌};
-ghost use Rattle.paper.specs.Matching.{same_key};
-ghost use Rattle.side.specs.Sides.{key_of, side_for, side_at, Bucket, send_under, receive_under};
+ghost use Rattle.side.specs.Sides.{side_for, side_at, Bucket, send_under, receive_under};
 
 use paper::Role;
 
 // From whom to whom, with which tag.
-#[derive(Clone, Copy)]
+#[derive(Clone, Copy, PartialEq, Eq)]
 pub struct Key {
     pub sender: usize,
     pub receiver: usize,
@@ -22,6 +21,7 @@ pub enum Side {
     Receives(Key),
 }
 
+#[tactic(auto, unfolding(crate::specs::Sides::side_for))]
 fn side_for(processor: usize, role: Role) -> Side
     ensures { result ≡ side_for processor role }
 {
@@ -41,37 +41,20 @@ fn side_for(processor: usize, role: Role) -> Side
 }
 
 // The side of the record at place i of a store.
+#[tactic(auto, unfolding(crate::specs::Sides::side_at))]
 pub fn side_at(store: &[u32], i: usize) -> Side
     ensures { result ≡ side_at store.now i }
 {
-    let processor = store::processor_at(store, i);
-    let role = store::role_at(store, i);
-    side_for(processor, role)
-}
-
-fn same_key(a: Key, b: Key) -> bool
-    ensures { result ≡ same_key (key_of a) (key_of b) }
-{
-    if a.sender != b.sender {
-        return false;
-    }
-    if a.receiver != b.receiver {
-        return false;
-    }
-    let tag = a.tag;
-    let other = b.tag;
-    tag == other
+    side_for(store::processor_at(store, i), store::role_at(store, i))
 }
 
 // Record i is a send under the key.
 pub fn send_under(store: &[u32], i: usize, key: Key) -> bool
     ensures { result ≡ send_under store.now key i }
 {
-    let side = side_at(store, i);
-    match side {
-        Side::Neither => false,
-        Side::Sends(k) => same_key(key, k),
-        Side::Receives(_) => false,
+    match side_at(store, i) {
+        Side::Sends(k) => key == k,
+        Side::Neither | Side::Receives(_) => false,
     }
 }
 
@@ -79,11 +62,9 @@ pub fn send_under(store: &[u32], i: usize, key: Key) -> bool
 pub fn receive_under(store: &[u32], i: usize, key: Key) -> bool
     ensures { result ≡ receive_under store.now key i }
 {
-    let side = side_at(store, i);
-    match side {
-        Side::Neither => false,
-        Side::Sends(_) => false,
-        Side::Receives(k) => same_key(key, k),
+    match side_at(store, i) {
+        Side::Receives(k) => key == k,
+        Side::Neither | Side::Sends(_) => false,
     }
 }
 

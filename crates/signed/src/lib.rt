@@ -1,19 +1,12 @@
 // Signed numbers tested and turned into plain ones, in functions so small that no other crate's proof meets a number's bits.
 #![tactic(auto)]
 
-ghost use Rattle.std.specs.Prelude.{◌-◌, ◌≡◌};
+ghost use Rattle.std.specs.Prelude.{◌≡◌};
 ghost use Rattle.std.specs.Int.Signed.{lt_z};
 ghost use Rattle.paper.specs.Tests.{eq_z};
 ghost use Rattle.paper.specs.Gaps.{apart};
 ghost use Rattle.signed.specs.Naturals.{size_of, natural_of};
 ghost use Rattle.signed.specs.Codes.{code_of, decoded};
-
-// A number that is not negative, or outside.
-#[derive(Clone, Copy)]
-pub enum Natural {
-    Of(usize),
-    Outside,
-}
 
 pub fn same(a: i64, b: i64) -> bool
     ensures { result ≡ eq_z a b }
@@ -28,26 +21,21 @@ pub fn earlier(a: i64, b: i64) -> bool
 }
 
 // "0 or more"
-pub fn size(z: i64) -> Natural
+pub fn size(z: i64) -> Option<usize>
     ensures { result ≡ size_of z }
 {
-    if z < 0 {
-        return Natural::Outside;
-    }
-    Natural::Of(z as usize)
+    usize::try_from(z).ok()
 }
 
 // "0 to most"
-pub fn up_to(z: i64, most: usize) -> Natural
+pub fn up_to(z: i64, most: usize) -> Option<usize>
     ensures { result ≡ natural_of most z }
 {
-    let Natural::Of(n) = size(z) else {
-        return Natural::Outside;
-    };
+    let n = size(z)?;
     if most < n {
-        return Natural::Outside;
+        return None;
     }
-    Natural::Of(n)
+    Some(n)
 }
 
 // A signed number as a plain one.
@@ -71,30 +59,20 @@ pub fn from_code(n: u64) -> i64
     -1 - half
 }
 
-// a less b, 0 where that is more.
-fn less(a: u64, b: u64) -> u64
-    ensures { result ≡ a - b }
-{
-    if a <= b {
-        return 0;
-    }
-    a - b
-}
-
 // How far one code's number lies behind another's: even codes are of 0 and above, odd ones of the negative numbers.
 fn between(earlier: u64, later: u64) -> u64
     ensures { result ≡ apart (decoded earlier) (decoded later) }
 {
     if earlier % 2 == 0 {
         if later % 2 == 0 {
-            return less(later / 2, earlier / 2);
+            return (later / 2).saturating_sub(earlier / 2);
         }
         return 0;
     }
     if later % 2 == 0 {
         return later / 2 + (earlier / 2 + 1);
     }
-    less(earlier / 2, later / 2)
+    (earlier / 2).saturating_sub(later / 2)
 }
 
 // How far a number lies behind an earlier one, 0 where it does not. No difference of two numbers of 64 bits is too large for it.

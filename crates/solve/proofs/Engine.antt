@@ -1,4 +1,5 @@
 -- The engine run on the tables of a store: its answer is the paper's.
+use Rattle.std.specs.Prelude.{Result, Ok, Err}
 use Prim.Native.Nat.{ℕ, ◌≤◌, ◌<◌}
 use native.Mathlib.Decide.{ℕ_discrete}
 use mathlib.Core.Path.{◌≡◌, refl, sym, ap, ◌∙◌}
@@ -18,8 +19,6 @@ use Rattle.store.proofs.Listed.{length_listed}
 use Rattle.clock.specs.Promise.{outcome, outcome_of}
 use Rattle.engine.specs.Promise.{widest, gaps_for}
 use Rattle.engine.specs.Inner.{Sized}
-use Rattle.clock.specs.declared.Settled.{Settled}
-use Rattle.clock.specs.declared.Settled.TheVariants.{Rounds, Impossible, Misfit}
 use Rattle.clock.proofs.Outcomes.{rounds_learnt, impossible_learnt, misfit_learnt}
 use Rattle.chains.specs.Places.{places_of}
 use Rattle.waits.specs.Tables.{gap_at, originals_of, befores_of, befores_into, gaps_of, gaps_by, gaps_into, latencies_of}
@@ -27,6 +26,7 @@ use Rattle.waits.proofs.Outcomes.{befores_few}
 use Rattle.waits.proofs.Same.{same_settled}
 use Rattle.waits.proofs.Gaps.{gaps_share, gaps_are, gaps_at, nothing_kept}
 use Rattle.solve.specs.Outcome.{Keepable, kept_places, Tables, settled_by}
+use Rattle.engine.specs.declared.Unsettled.{Unsettled}
 
 module _ (store table : List ℕ) (share : ℕ) (sends : List ℕ) {before gap latency : List ℕ} (times : List ℤ) {spare : List ℤ}
     (tables : Tables share store sends before gap latency times spare) {o : List ℤ} {b g l : List ℕ} (all-o : o ≡ originals_of (entries_in store (length times))) (all_b : b ≡ befores_into store before) (all-g : g ≡ gaps_into share store b gap)
@@ -117,8 +117,8 @@ module _ (store table : List ℕ) (share : ℕ) (sends : List ℕ) {before gap l
           are_latencies = l_is;
         })
 
-    pub engine_answers : (r : Settled) (t s : List ℤ) → outcome r t s ≡ outcome_of b g sends l o spare → settled_by share table es r t
+    pub engine_answers : (r : Result ℕ Unsettled) (t s : List ℤ) → outcome r t s ≡ outcome_of b g sends l o spare → settled_by share table es r t
     unfolding settled_by
-    engine_answers (Rounds k) t s e = sym paper_settles ∙ (rounds_learnt _ _ _ _ _ _ _ _ k e).0
-    engine_answers Impossible t s e = sym paper_settles ∙ (impossible_learnt _ _ _ _ _ _ _ _ e).0
-    engine_answers Misfit t s e = misfit_learnt _ _ _ _ _ _ _ _ e sized
+    engine_answers (Ok k) t s e = sym paper_settles ∙ (rounds_learnt _ _ _ _ _ _ _ _ k e).0
+    engine_answers (Err Unsettled.Impossible) t s e = sym paper_settles ∙ (impossible_learnt _ _ _ _ _ _ _ _ e).0
+    engine_answers (Err Unsettled.Misfit) t s e = misfit_learnt _ _ _ _ _ _ _ _ e sized

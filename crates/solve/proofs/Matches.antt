@@ -1,6 +1,6 @@
 -- The messages matched, and what the times then come to.
-use Prim.Native.Nat.{ℕ, ◌-◌, ◌≤◌, ◌<◌}
-use native.Mathlib.Nat.{sub-zero}
+use Rattle.std.specs.Prelude.{Result, Ok, Err}
+use Prim.Native.Nat.{ℕ, ◌≤◌, ◌<◌}
 use mathlib.Core.Path.{◌≡◌, refl, sym, ap, ◌∙◌}
 use mathlib.Core.List.{List, [], ◌∷◌}
 use mathlib.Core.Bool.{Bool, true, false, cond, ◌&&◌}
@@ -9,41 +9,23 @@ use lib.ListN.{length, take, replicate}
 use lib.Seq.{length-take-le}
 use lib.IntN.{ℤ}
 use lib.Dec.{leb, ltb, eqb}
-use borrow.Author.Tests.{le-leb, lt-leb, lt-ltb, le-ltb, ltb-true, leb-true}
+use borrow.Author.Tests.{le-leb, ltb-true, leb-true}
 use Rattle.paper.specs.Matching.{matched_of, matched_count, unreceived_count}
 use Rattle.paper.specs.declared.Entry.{Entry}
-use Rattle.paper.specs.declared.Fault.{Fault}
-use Rattle.paper.specs.declared.Site.{Site}
-use Rattle.paper.specs.declared.Stop.{Stop}
-use Rattle.paper.specs.declared.Stop.TheVariants.{End, At}
 use Rattle.store.specs.Layout.{too_many, capacity, entries_in}
 use Rattle.chains.specs.Places.{places_of}
 use Rattle.chains.proofs.Outcomes.{they_fit}
 use Rattle.message.specs.Outcome as message
-use Rattle.message.specs.declared.Matching.{Matching}
 use Rattle.forms.proofs.Tests.{both}
 use Rattle.engine.specs.Promise.{all_are}
-use Rattle.clock.specs.declared.Settled.{Settled}
 use Rattle.engine.proofs.Lengths.{all_equal}
-use Rattle.solve.specs.Outcome.{fitting, Keepable, kept_places, solved_by, SolvedInto, settled_as, Tables, settled_by}
-use Rattle.solve.specs.declared.Solved.{Solved}
-use Rattle.solve.specs.declared.Solved.TheVariants.{Times, Refused, Impossible, Misfit}
+use Rattle.solve.specs.Outcome.{fitting, Keepable, kept_places, solved_by, SolvedInto, unmatched_as, unsettled_as, Tables, settled_by}
+use Rattle.paper.specs.declared.Refusal.{Refusal}
+use Rattle.message.specs.declared.Unmatched.{Unmatched}
+use Rattle.engine.specs.declared.Unsettled.{Unsettled}
+use Rattle.solve.specs.declared.Unsolved.{Unsolved}
 
 -- ---- slices that fit, and slices that do not
-
-module _ (n room : ℕ) (lengths : List ℕ) where
-  pub many : too_many ≤ n → false ≡ fitting n room lengths
-  unfolding fitting
-  many h = rw (le-ltb n too_many h)
-
-  module _ (few : n < too_many) where
-    pub narrow : room < n → false ≡ fitting n room lengths
-    unfolding fitting
-    narrow h = rw (lt-ltb n too_many few, lt-leb n room h)
-
-    pub even : n ≤ room → {told : Bool} → told ≡ all_are n lengths → told ≡ fitting n room lengths
-    unfolding fitting
-    even h e = rw (lt-ltb n too_many few, le-leb n room h, e)
 
 -- the gaps that are lent are not more than there are
 pub few_kept : (share n : ℕ) {kept : ℕ} → kept ≡ kept_places share n → kept ≤ n
@@ -54,14 +36,19 @@ few_kept share n {kept} is = go (eqb share 0) is
     go true e = omega arith
     go false e = omega arith
 
-pub unfit : {fits : Bool} → fits ≡ false → (share : ℕ) (table : List ℕ) (es : List Entry) (sends : List ℕ) (times : List ℤ) → SolvedInto fits share table es Misfit sends times
+pub unfit : {fits : Bool} → fits ≡ false → (share : ℕ) (table : List ℕ) (es : List Entry) (sends : List ℕ) (times : List ℤ)
+    → SolvedInto fits share table es (Err Unsolved.Misfit) sends times
 unfit e share table es sends times = rw e (record { answers = λ z. absurd (let q : ◌≡◌ {A = ℕ} 0 1 = cc in omega arith); misfits = λ z. refl })
 
 -- ---- an answer to the messages, of slices that fit
 
+abbrev counts_or : Result (ℕ × ℕ) Unmatched → ℕ × ℕ
+counts_or (Ok counts) = counts
+counts_or (Err unmatched) = (0, 0)
+
 module _ (store : List ℕ) (times : List ℤ) {space : ℕ} (holds : space ≡ capacity store) (sends before gap latency : List ℕ) (spare : List ℤ) {told : Bool}
     (tells : told ≡ fitting (length times) space (length sends ∷ length before ∷ length gap ∷ length latency ∷ length spare ∷ [])) (yes-fit : told ≡ true)
-    (r : Matching) (places links : List ℕ)
+    (r : Result (ℕ × ℕ) Unmatched) (places links : List ℕ)
     (is : ◌≡◌ {A = message.Outcome} (record { answer = r; sends = places; link = links }) (message.matching store sends before)) where
   es : List Entry
   es = entries_in store (length times)
@@ -115,47 +102,45 @@ module _ (store : List ℕ) (times : List ℤ) {space : ℕ} (holds : space ≡ 
   answer_is = ap (λ (o : message.Outcome). o.answer) matched_is
 
   module _ (share : ℕ) (table : List ℕ) where
-    abbrev Into : Solved → List ℕ → List ℤ → Type 0
+    abbrev Into : Result (ℕ × ℕ × ℕ) Unsolved → List ℕ → List ℤ → Type 0
     Into x sends' times' =
         SolvedInto (fitting (length times) (capacity store) (length sends ∷ length before ∷ length gap ∷ length latency ∷ length spare ∷ [])) share table
         (entries_in store (length times)) x sends' times'
 
-    answer : (x : Solved) (sends' : List ℕ) (times' : List ℤ) → (Keepable share es → solved_by share table es x sends' times') → Into x sends' times'
+    answer : (x : Result (ℕ × ℕ × ℕ) Unsolved) (sends' : List ℕ) (times' : List ℤ) → (Keepable share es → solved_by share table es x sends' times') → Into x sends' times'
     unfolding es
     answer x sends' times' by =
         rw fit_is (record { answers = λ z. by; misfits = λ z. absurd (let q : ◌≡◌ {A = ℕ} 0 1 = cc in omega arith) })
 
-    pub out_refused : (fault : Fault) (site : Site) → r ≡ Matching.Refused fault site → (times' : List ℤ) → Into (Refused fault site) places times'
+    -- a refusal of the messages; and slices that fit are never a misfit
+    pub out_unmatched : (unmatched : Unmatched) → r ≡ Err unmatched → (times' : List ℤ) → Into (Err (unmatched_as unmatched)) places times'
     unfolding solved_by
-    out_refused fault site e times' = answer (Refused fault site) places times' (λ keep. go (matched_of es) (sym answer_is ∙ e))
+    out_unmatched (Unmatched.Refused refusal) e times' = answer (Err (Unsolved.Refused refusal)) places times' (λ keep. go (matched_of es) (sym answer_is ∙ e))
       where
-        go : (s : Stop) → message.answer_for es s ≡ Matching.Refused fault site → s ≡ At fault site
-        go End q = cc
-        go (At f l) q = cc
-
-    -- slices that fit are never a misfit
-    pub out_never : r ≡ Matching.Misfit → (times' : List ℤ) → Into Misfit places times'
-    out_never e times' = absurd (go (matched_of es) (sym answer_is ∙ e))
+        go : (s : Result Unit Refusal) → message.answer_for es s ≡ Err (Unmatched.Refused refusal) → s ≡ Err refusal
+        go (Ok tt) q = cc
+        go (Err other) q = cc
+    out_unmatched Unmatched.Misfit e times' = absurd (go (matched_of es) (sym answer_is ∙ e))
       where
-        go : (s : Stop) → message.answer_for es s ≡ Matching.Misfit → ⊥
-        go End q = let z : ◌≡◌ {A = ℕ} 0 1 = cc in omega arith
-        go (At f l) q = let z : ◌≡◌ {A = ℕ} 0 1 = cc in omega arith
+        go : (s : Result Unit Refusal) → message.answer_for es s ≡ Err Unmatched.Misfit → ⊥
+        go (Ok tt) q = let z : ◌≡◌ {A = ℕ} 0 1 = cc in omega arith
+        go (Err refusal) q = let z : ◌≡◌ {A = ℕ} 0 1 = cc in omega arith
 
-    module _ (matched unreceived : ℕ) (e : r ≡ Matching.Matched matched unreceived) where
+    module _ (matched unreceived : ℕ) (e : r ≡ Ok (matched, unreceived)) where
       record AllMatched : Type 0 where
-        stop : matched_of es ≡ End
+        stop : matched_of es ≡ Ok tt
         many_matched : matched ≡ matched_count es
         left : unreceived ≡ unreceived_count es
 
       all_matched : AllMatched
       all_matched = go (matched_of es) refl (sym answer_is ∙ e)
         where
-          go : (s : Stop) → matched_of es ≡ s → message.answer_for es s ≡ Matching.Matched matched unreceived → AllMatched
-          go End p q = record { stop = p; many_matched = cc; left = cc }
-          go (At f l) p q = absurd (let z : ◌≡◌ {A = ℕ} 0 1 = cc in omega arith)
+          go : (s : Result Unit Refusal) → matched_of es ≡ s → message.answer_for es s ≡ Ok (matched, unreceived) → AllMatched
+          go (Ok tt) p q = record { stop = p; many_matched = sym (ap (λ c. (counts_or c).0) q); left = sym (ap (λ c. (counts_or c).1) q) }
+          go (Err refusal) p q = absurd (let z : ◌≡◌ {A = ℕ} 0 1 = cc in omega arith)
 
       pub tables : length links ≡ length before → {kept : ℕ} → kept ≡ kept_places share (length gap)
-          → Tables share store places links (take (kept - 0) gap) latency times spare
+          → Tables share store places links (take kept gap) latency times spare
       unfolding es
       tables same {kept} is =
           record {
@@ -163,18 +148,17 @@ module _ (store : List ℕ) (times : List ℤ) {space : ℕ} (holds : space ≡ 
             few = few;
             room = room;
             all_before = same ∙ equal.all_before;
-            all_gap = rw (sub-zero kept) (length-take-le kept gap (few_kept share (length gap) is)) ∙ is ∙ ap (kept_places share) equal.all_gap;
+            all_gap = length-take-le kept gap (few_kept share (length gap) is) ∙ is ∙ ap (kept_places share) equal.all_gap;
             all_latency = equal.all_latency;
             all_spare = equal.all_spare;
           }
 
-      pub out_settled : (q : Settled) (times' : List ℤ)
-          → (Keepable share (entries_in store (length times)) → settled_by share table (entries_in store (length times)) q times')
-          → (x : Solved) → x ≡ settled_as matched unreceived q → Into x places times'
-      unfolding solved_by settled_by settled_as es
-      out_settled (Settled.Rounds rounds) times' by x s =
-          rw s
-          (answer (Times matched unreceived rounds) places times'
+      pub out_rounds : (rounds : ℕ) (times' : List ℤ)
+          → (Keepable share (entries_in store (length times)) → settled_by share table (entries_in store (length times)) (Ok rounds) times')
+          → Into (Ok (matched, unreceived, rounds)) places times'
+      unfolding solved_by settled_by es
+      out_rounds rounds times' by =
+          answer (Ok (matched, unreceived, rounds)) places times'
           (λ keep.
           record {
             matches = all_matched.stop;
@@ -182,6 +166,11 @@ module _ (store : List ℕ) (times : List ℤ) {space : ℕ} (holds : space ≡ 
             places = ap (λ (o : message.Outcome). o.sends) matched_is;
             many = all_matched.many_matched;
             left = all_matched.left;
-          }))
-      out_settled Settled.Impossible times' by x s = rw s (answer Impossible places times' (λ keep. (all_matched.stop, by keep)))
-      out_settled Settled.Misfit times' by x s = rw s (answer Misfit places times' (λ keep. absurd (by keep)))
+          })
+
+      pub out_unsettled : (unsettled : Unsettled) (times' : List ℤ)
+          → (Keepable share (entries_in store (length times)) → settled_by share table (entries_in store (length times)) (Err unsettled) times')
+          → Into (Err (unsettled_as unsettled)) places times'
+      unfolding solved_by settled_by es
+      out_unsettled Unsettled.Impossible times' by = answer (Err Unsolved.Impossible) places times' (λ keep. (all_matched.stop, by keep))
+      out_unsettled Unsettled.Misfit times' by = answer (Err Unsolved.Misfit) places times' (λ keep. absurd (by keep))

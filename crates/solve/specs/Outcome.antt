@@ -1,18 +1,17 @@
 -- What the times of a store's records come to: the answer, and what the lent places and times hold afterwards.
-use Rattle.std.specs.Prelude.{ℕ, ◌<◌, ◌≤◌, ◌≡◌, List, Bool, true, false, cond, ◌&&◌, length, ℤ, leb, ltb, eqb}
+use Rattle.std.specs.Prelude.{ℕ, ◌<◌, ◌≤◌, ◌≡◌, List, Bool, true, false, cond, ◌&&◌, length, ℤ, leb, ltb, eqb, Result, Ok, Err}
 use Rattle.paper.specs.Tests.{all_up_to}
 use Rattle.paper.specs.Clock as paper
 use Rattle.paper.specs.Clock.{settled, impossible}
 use Rattle.paper.specs.Matching.{matched_of, matched_count, unreceived_count, waits_of}
 use Rattle.paper.specs.declared.Entry.{Entry}
-use Rattle.paper.specs.declared.Stop.TheVariants.{End, At}
 use Rattle.store.specs.Layout.{too_many, capacity, entries_in}
 use Rattle.engine.specs.Promise.{all_are, widest}
-use Rattle.clock.specs.declared.Settled.{Settled}
 use Rattle.chains.specs.Places.{places_of}
 use Rattle.waits.specs.Tables.{gaps_of}
-use Rattle.solve.specs.declared.Solved.{Solved}
-use Rattle.solve.specs.declared.Solved.TheVariants.{Times, Refused, Impossible, Misfit}
+use Rattle.message.specs.declared.Unmatched.{Unmatched}
+use Rattle.engine.specs.declared.Unsettled.{Unsettled}
+use Rattle.solve.specs.declared.Unsolved.{Unsolved}
 
 -- n records, for which there is room, and a place for each in every slice
 unfoldable pub fitting : ℕ → ℕ → List ℕ → Bool
@@ -25,30 +24,33 @@ pub record Keepable (share : ℕ) (es : List Entry) : Type 0 where
 
 -- the times of the entries, with what was counted; the places of the sends in one slice, the times in the other
 pub record Solution (share : ℕ) (table : List ℕ) (es : List Entry) (matched unreceived rounds : ℕ) (sends : List ℕ) (times : List ℤ) : Type 0 where
-  pub matches : matched_of es ≡ End
+  pub matches : matched_of es ≡ Ok tt
   pub settles : paper.settle (waits_of share table es) ≡ settled rounds times
   pub places : sends ≡ places_of es
   pub many : matched ≡ matched_count es
   pub left : unreceived ≡ unreceived_count es
 
-unfoldable pub solved_by : ℕ → List ℕ → List Entry → Solved → List ℕ → List ℤ → Type 0
-solved_by share table es (Times matched unreceived rounds) sends times = Solution share table es matched unreceived rounds sends times
-solved_by share table es (Refused fault site) sends times = matched_of es ≡ At fault site
-solved_by share table es Impossible sends times = (matched_of es ≡ End) × (paper.settle (waits_of share table es) ≡ impossible)
-solved_by share table es Misfit sends times = ⊥
+unfoldable pub solved_by : ℕ → List ℕ → List Entry → Result (ℕ × ℕ × ℕ) Unsolved → List ℕ → List ℤ → Type 0
+solved_by share table es (Ok (matched, unreceived, rounds)) sends times = Solution share table es matched unreceived rounds sends times
+solved_by share table es (Err (Unsolved.Refused refusal)) sends times = matched_of es ≡ Err refusal
+solved_by share table es (Err Unsolved.Impossible) sends times = (matched_of es ≡ Ok tt) × (paper.settle (waits_of share table es) ≡ impossible)
+solved_by share table es (Err Unsolved.Misfit) sends times = ⊥
 
 -- an answer where the slices fit and the gaps can be kept, and none where the slices do not fit
-pub record SolvedInto (fits : Bool) (share : ℕ) (table : List ℕ) (es : List Entry) (r : Solved) (sends : List ℕ) (times : List ℤ) : Type 0 where
+pub record SolvedInto (fits : Bool) (share : ℕ) (table : List ℕ) (es : List Entry) (r : Result (ℕ × ℕ × ℕ) Unsolved) (sends : List ℕ) (times : List ℤ) : Type 0 where
   pub answers : fits ≡ true → Keepable share es → solved_by share table es r sends times
-  pub misfits : fits ≡ false → r ≡ Misfit
+  pub misfits : fits ≡ false → r ≡ Err Unsolved.Misfit
 
 -- ---- for the functions below
 
--- the engine's answer, where all messages match
-unfoldable pub settled_as : ℕ → ℕ → Settled → Solved
-settled_as matched unreceived (Settled.Rounds rounds) = Times matched unreceived rounds
-settled_as matched unreceived Settled.Impossible = Impossible
-settled_as matched unreceived Settled.Misfit = Misfit
+-- the same reasons, of the messages and of the engine
+abbrev pub unmatched_as : Unmatched → Unsolved
+unmatched_as (Unmatched.Refused refusal) = Unsolved.Refused refusal
+unmatched_as Unmatched.Misfit = Unsolved.Misfit
+
+abbrev pub unsettled_as : Unsettled → Unsolved
+unsettled_as Unsettled.Impossible = Unsolved.Impossible
+unsettled_as Unsettled.Misfit = Unsolved.Misfit
 
 -- how many gaps are lent of n: none where nothing is kept
 unfoldable pub kept_places : (share n : ℕ) → ℕ
@@ -65,7 +67,7 @@ pub record Tables (share : ℕ) (store sends before gap latency : List ℕ) (tim
   pub all_spare : length spare ≡ length times
 
 -- the engine's answer, with what it leaves in the times, is the paper's
-unfoldable pub settled_by : ℕ → List ℕ → List Entry → Settled → List ℤ → Type 0
-settled_by share table es (Settled.Rounds k) times = paper.settle (waits_of share table es) ≡ settled k times
-settled_by share table es Settled.Impossible times = paper.settle (waits_of share table es) ≡ impossible
-settled_by share table es Settled.Misfit times = ⊥
+unfoldable pub settled_by : ℕ → List ℕ → List Entry → Result ℕ Unsettled → List ℤ → Type 0
+settled_by share table es (Ok k) times = paper.settle (waits_of share table es) ≡ settled k times
+settled_by share table es (Err Unsettled.Impossible) times = paper.settle (waits_of share table es) ≡ impossible
+settled_by share table es (Err Unsettled.Misfit) times = ⊥

@@ -20,10 +20,7 @@ fn after_space(s: &[u8], at: usize) -> usize
         return s.len();
     }
     let space = octets::find(s, at, 32);
-    if space == s.len() {
-        return space;
-    }
-    space + 1
+    if space == s.len() { space } else { space + 1 }
 }
 
 // Where the third field of the line begins that starts at a place.
@@ -51,14 +48,5 @@ pub fn stamp_of(s: &[u8], store: &[u32], i: usize) -> Stamp
 pub fn in_place(left: usize, there: usize, old: usize, new: usize) -> bool
     ensures { result ≡ in_place left there old new }
 {
-    if left < there {
-        return false;
-    }
-    if there < old {
-        return false;
-    }
-    if old == 0 {
-        return false;
-    }
-    0 < new
+    there <= left && old <= there && 0 < old && 0 < new
 }

@@ -1,5 +1,6 @@
 -- What the code finds out of a store's records before it adds any: whether each is one that a line gives.
 use Rattle.std.proofs.Common.{◌≡◌, ℕ, ◌+◌, ◌<◌, ◌≤◌, Bool, true, false, ltb, List, ℤ, sym, true≢false, arith, ltb-false, ltb-true}
+use borrow.Author.Tests.{lt-ltb}
 use native.Mathlib.Decide.{dec_lt}
 use Rattle.paper.specs.Statistics.{length_in}
 use Rattle.paper.specs.declared.Entry.{Entry}
@@ -17,12 +18,13 @@ module _ (e : Entry) {t : ℤ} (its-time : t ≡ e.body.time) {code : ℕ} (its-
   same_code : code ≡ code_of e.body.time
   same_code = rw (← its-time) its-code
 
-  pub time_beyond : 1999999999999998 < code → Lacks (Held e) true
+  pub time_beyond : 1999999999999998 < code → Lacks (Held e) (ltb 1999999999999998 code)
   time_beyond h =
-      record {
+      rw (lt-ltb 1999999999999998 code h)
+      (record {
         holds = λ f. absurd (true≢false f);
         fails = λ f held. omega (arith, same_code, code_low e.body.time held.time);
-      }
+      })
 
   module _ {role : Role} (its-role : role ≡ e.body.role) {length : ℕ} (its_length : length ≡ length_in role) where
     same_length : length ≡ length_in e.body.role

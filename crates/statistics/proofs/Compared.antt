@@ -1,6 +1,6 @@
 -- One pair: what is decided over numbers is what the paper says of the records.
+use Rattle.std.specs.Prelude.{Some, None}
 use Rattle.std.proofs.Common.{◌≡◌, ℕ, ◌+◌, ◌*◌, ◌%◌, ◌^◌, ◌<◌, ◌≤◌, Bool, true, false, cond, not, ◌&&◌, ◌||◌, eqb, leb, List, ℤ, pos, ◌-ℤ◌, nat_abs, sym, refl, ap, ◌∙◌, arith, eqb-true}
-use mathlib.Core.Option.{none, some}
 use Rattle.paper.specs.Tests.{eq_z, minus, one_of}
 use Rattle.paper.specs.Matching.{count_if, is_on}
 use Rattle.paper.specs.Events.{standing_of}
@@ -129,7 +129,7 @@ module _ (l : List ℕ) (n i : ℕ) (in_reach : i ≤ n) (few : n ≤ summed) (h
 
       go : (s r f : Bool)
           → cond (s || (r || (f || false))) (not (eq_z told (minus 1)) && not (eq_z told (pos (lengths_if (is_of (cond s (minus 3) (minus 4)) event p) (earlier l n i))))) false
-          ≡ (not (eq_z told (minus 1)) && on_volume (earlier l n i) p event told (cond s (some (minus 3)) (cond (r || (f || false)) (some (minus 4)) none)))
+          ≡ (not (eq_z told (minus 1)) && on_volume (earlier l n i) p event told (cond s (Some (minus 3)) (cond (r || (f || false)) (Some (minus 4)) None)))
       go true r f = refl
       go false true f = refl
       go false false true = refl

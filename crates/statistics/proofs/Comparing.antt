@@ -1,27 +1,27 @@
 -- The records, one by one: those that are left come to what all come to.
-use Rattle.std.proofs.Common.{◌≡◌, ℕ, ◌+◌, ◌<◌, ◌≤◌, Bool, true, false, List, [], length, get_or, drop, replicate, ℤ, sym, refl, ◌∙◌, add-one, arith, drop-cons, w64, Fits}
+use Rattle.std.specs.Prelude.{Result, Ok}
+use Rattle.std.proofs.Common.{◌≡◌, ℕ, ◌+◌, ◌<◌, ◌≤◌, Bool, true, false, List, [], length, get_or, drop, replicate, ℤ, sym, refl, ◌∙◌, add-one, arith, drop-cons}
 use lib.Seq.{drop-length}
-use Rattle.paper.specs.Columns.{whole_line}
+use Rattle.paper.specs.Columns.{whole_line, refused_at}
 use Rattle.paper.specs.Matching.{no_entry, entry_at}
 use Rattle.paper.specs.Reading.{lines_of}
-use Rattle.paper.specs.Statistics.{summed, on_differs, compared_from}
+use Rattle.paper.specs.Statistics.{on_differs, compared_from}
 use Rattle.paper.specs.declared.Fault.TheVariants as Fault
 use Rattle.paper.specs.declared.Site.{Site}
-use Rattle.paper.specs.declared.Stop.{Stop}
-use Rattle.paper.specs.declared.Stop.TheVariants.{End, At}
 use Rattle.reading.specs.Tidy.{InRange}
 use Rattle.store.specs.Layout.{entry_from, entries_in}
 use Rattle.store.proofs.Laws.{length_entries, entry_in}
 use Rattle.statistics.specs.Tallied.{Tallied}
 use Rattle.statistics.proofs.Tallied.{none_added}
 use Rattle.statistics.specs.Ready.{Sized, AllHeld, Stands, Holding, Before, earlier, differs_at}
+use Rattle.paper.specs.declared.Refusal.{Refusal}
 
 -- ---- the loop
 
-abbrev all : List ℕ → List ℕ → ℕ → Stop
+abbrev all : List ℕ → List ℕ → ℕ → Result Unit Refusal
 all trace l n = compared_from (lines_of trace) (entries_in l n) 0 (entries_in l n)
 
-abbrev left : List ℕ → List ℕ → ℕ → ℕ → Stop
+abbrev left : List ℕ → List ℕ → ℕ → ℕ → Result Unit Refusal
 left trace l n i = compared_from (lines_of trace) (entries_in l n) i (drop i (entries_in l n))
 
 pub record Comparing (trace l : List ℕ) (n : ℕ) (link counts : List ℕ) (times lengths : List ℤ) (heads : List ℕ) (i : ℕ) : Type 0 where
@@ -47,7 +47,7 @@ module _ (trace l : List ℕ) (n i : ℕ) where
       let first : get_or es i no_entry ≡ entry_from l i = unfold entry_at in entry_in l n i h in
       rw (drop-cons es i no_entry (rw (length_entries l n) h), first, add-one)
 
-  none_left : i ≡ n → left trace l n i ≡ End
+  none_left : i ≡ n → left trace l n i ≡ Ok tt
   unfolding compared_from
   none_left e =
       let es = entries_in l n in
@@ -55,23 +55,16 @@ module _ (trace l : List ℕ) (n i : ℕ) where
       rw all_gone
 
 module _ {trace l : List ℕ} {n : ℕ} {link counts : List ℕ} {times lengths : List ℤ} {heads : List ℕ} {i : ℕ} (g : Comparing trace l n link counts times lengths heads i) where
-  pub next_fits : i < length link → Fits w64 (i + 1)
-  unfolding summed
-  next_fits h = record { fits = omega (arith, g.before.tallied.few) }
+  pub in_range : i < n → InRange (entry_from l i).body.time
+  in_range h = (g.before.held i (rw g.long h)).time
 
-  pub in_reach : i < length link → i < n
-  in_reach h = rw (← g.long) h
-
-  pub in_range : i < length link → InRange (entry_from l i).body.time
-  in_range h = (g.before.held i h).time
-
-  module _ (h : i < length link) {told : Bool} (tells : Stands trace l i → told ≡ differs_at trace l (length link) i) where
+  module _ (h : i < n) {told : Bool} (tells : Stands trace l i → told ≡ differs_at trace l (length link) i) where
     -- what is told of record i, and those behind it
     from_here : Holding trace l n → all trace l n ≡ on_differs told (entry_from l i).line (left trace l n (i + 1))
     from_here holding =
-        rw (g.same holding, here trace l n i (in_reach h), ← g.long, ← tells (holding.stands i (in_reach h)))
+        rw (g.same holding, here trace l n i h, ← g.long, ← tells (holding.stands i h))
 
-    pub stops : told ≡ true → {site : Site} → site ≡ whole_line (entry_from l i).line → Holding trace l n → At Fault.OtherStatistics site ≡ all trace l n
+    pub stops : told ≡ true → {site : Site} → site ≡ whole_line (entry_from l i).line → Holding trace l n → refused_at Fault.OtherStatistics site ≡ all trace l n
     stops t e holding = rw (e, from_here holding, t)
 
     pub goes_on_lem : told ≡ false → {link₁ counts₁ : List ℕ} {times₁ lengths₁ : List ℤ} {heads₁ : List ℕ} → length link₁ ≡ length link
@@ -83,5 +76,5 @@ module _ {trace l : List ℕ} {n : ℕ} {link counts : List ℕ} {times lengths 
           same = λ holding. rw (from_here holding, t);
         }
 
-  pub ends : length link ≤ i → Holding trace l n → End ≡ all trace l n
+  pub ends : n ≤ i → Holding trace l n → Ok tt ≡ all trace l n
   ends h holding = sym (g.same holding ∙ none_left trace l n i (omega (arith, g.long, g.before.tallied.some)))

@@ -1,39 +1,15 @@
 -- Keys: what is under a key has that key, and is in its bucket.
-use Rattle.std.proofs.Common.{◌≡◌, ℕ, ◌+◌, ◌*◌, ◌%◌, ◌<◌, Bool, true, false, eqb, List, ℤ, refl, ap, arith, eq-eqb, ne_eqb, eqb-true}
+use Rattle.std.proofs.Common.{◌≡◌, ℕ, ◌<◌, Bool, true, false, eqb, List, refl, ap, arith, eq-eqb, eqb-true}
 use borrow.Author.Tests.{eqb-false}
 use Rattle.paper.specs.Tests.{eq_z}
 use Rattle.paper.specs.Statistics.{is_of}
-use Rattle.paper.specs.declared.Entry.{Entry}
 use Rattle.forms.proofs.Tests.{both}
 use Rattle.matching.proofs.Keys.{eq_z_true, eq_z_same}
-use Rattle.signed.specs.Codes.{code_of}
 use Rattle.store.specs.Layout.{entry_from}
 use Rattle.statistics.specs.declared.key.Key.{Key}
 use Rattle.statistics.specs.Keys.{under, key_at, under_at, bucket_of, in_bucket}
 
--- ---- a record under a key
-
-module _ (k : Key) (e : Entry) where
-  pub other_processor : (e.body.processor ≡ k.processor → ⊥) → false ≡ under k e
-  unfolding under is_of
-  other_processor h = rw (ne_eqb e.body.processor k.processor h)
-
-  module _ (on : e.body.processor ≡ k.processor) {event wanted : ℤ} (its-event : event ≡ e.body.event) (its-wanted : wanted ≡ k.event)
-      {told : Bool} (tells : told ≡ eq_z event wanted) where
-    pub other_event : told ≡ false → false ≡ under k e
-    unfolding under is_of
-    other_event h = rw (eq-eqb _ _ on, ← its-event, ← its-wanted, ← tells, h)
-
-    pub kinds_decide : told ≡ true → {kind asked : ℤ} → kind ≡ e.body.kind → asked ≡ k.kind → {same : Bool} → same ≡ eq_z kind asked → same ≡ under k e
-    unfolding under is_of
-    kinds_decide h a b so = rw (eq-eqb _ _ on, ← its-event, ← its-wanted, ← tells, h, so, a, b)
-
 module _ (l : List ℕ) where
-  pub key_is : (i : ℕ) {kind event : ℤ} {processor : ℕ} → kind ≡ (entry_from l i).body.kind → event ≡ (entry_from l i).body.event
-      → processor ≡ (entry_from l i).body.processor → record { kind = kind; event = event; processor = processor } ≡ key_at l i
-  unfolding key_at
-  key_is i a b c = rw (a, b, c)
-
   -- it has that key
   pub under_key : (k : Key) (i : ℕ) → under_at l k i ≡ true → key_at l i ≡ k
   unfolding under is_of key_at
@@ -60,11 +36,6 @@ module _ (l : List ℕ) where
       go false e = refl
 
 -- ---- the bucket
-
-pub bucket_is : (k : Key) {m n : ℕ} {event kind : ℤ} → m ≡ code_of event → event ≡ k.event → n ≡ code_of kind → kind ≡ k.kind
-    → (k.processor % 64 * 64 + m % 1024 * 37 + n % 16 * 5) % 1024 ≡ bucket_of k
-unfolding bucket_of
-bucket_is k a b c d = rw (a, b, c, d)
 
 pub bucket_low : (k : Key) → bucket_of k < 1024
 unfolding bucket_of

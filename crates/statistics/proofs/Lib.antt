@@ -1,5 +1,6 @@
 -- The laws of what like records come to and of what is kept of them; of one pair, of a line's pairs and of the records; and that one answer is
 -- left.
+pub mod Signs
 pub mod Keys
 pub mod Since
 pub mod Totals

@@ -1,14 +1,12 @@
 -- The pairs of a line: those that are left, with what was found before them, come to what all come to.
+use Rattle.std.specs.Prelude.{Option, Result, Some, None, Ok, Err}
 use Rattle.std.proofs.Common.{◌≡◌, ℕ, zero, suc, ◌-◌, ◌<◌, ◌≤◌, Bool, true, false, cond, ◌||◌, List, length, ℤ, pos, sym, refl, ap, ◌∙◌, arith, le-leb}
-use mathlib.Core.Option.{Option, none, some}
 use borrow.Author.Tests.{lt-leb}
 use Rattle.paper.specs.Text.{is_same}
 use Rattle.paper.specs.Forms.{whole_of, times_quoted, numbers_quoted, text_of}
 use Rattle.paper.specs.Line.{field, rest, nothing, first, on_field, first_of, bad, six, head_of, Pairs, unpaired, pairs, paired, pairs_of, pairs_for, quoted_for, told_for}
 use Rattle.paper.specs.Statistics.{any_differs, in_pairs, pairs_behind, pairs_in, is_compared, line_differs}
 use Rattle.paper.specs.declared.Fault.{Fault}
-use Rattle.paper.specs.declared.Field.{Field}
-use Rattle.paper.specs.declared.Field.TheVariants.{Good, Bad}
 use Rattle.paper.specs.declared.Head.{Head}
 use Rattle.forms.proofs.Tests.{never}
 use Rattle.forms.proofs.Goods.{whole_in_range, time_in_range}
@@ -19,22 +17,21 @@ use Rattle.field.specs.Cursor.{rest_at, read_as, Tells}
 use Rattle.field.specs.declared.Form.{Form}
 use Rattle.field.proofs.Cursors.{past, inside}
 use Rattle.fields.specs.Cursor.{begun_of, begun_next}
-use Rattle.fields.specs.declared.Opening.{Opening}
 use Rattle.store.specs.Layout.{entry_from, start_from}
 use Rattle.statistics.proofs.Tells.{or_false}
 use Rattle.statistics.specs.Ready.{Stands, pair_differs, pairs_differ, behind_found, differs_at}
 
 -- ---- what is told has a range in every form
 
-text_zero : (text s : List ℕ) (v : ℤ) → text_of text s ≡ Good v → InRange v
+text_zero : (text s : List ℕ) (v : ℤ) → text_of text s ≡ Some v → InRange v
 unfolding text_of
 text_zero text s v e = go (is_same s text) e
   where
-    go : (t : Bool) → cond t (Good (pos 0)) Bad ≡ Good v → InRange v
+    go : (t : Bool) → cond t (Some (pos 0)) None ≡ Some v → InRange v
     go true e = let zero : pos 0 ≡ v = cc in rw (← zero) (omega arith)
     go false e = never (cc)
 
-in_form : (form : Form) (s : List ℕ) (v : ℤ) → read_as form s ≡ Good v → InRange v
+in_form : (form : Form) (s : List ℕ) (v : ℤ) → read_as form s ≡ Some v → InRange v
 unfolding read_as times_quoted numbers_quoted
 in_form Form.Whole s v e = omega (arith, whole_in_range s v e)
 in_form Form.Time s v e = time_in_range s v e
@@ -43,12 +40,12 @@ in_form Form.NumbersQuoted s v e = text_zero _ s v e
 
 pub told_in_range : (form : Form) (f : Option (List ℕ)) (v : ℤ) (g : Option (List ℕ)) → first_of (read_as form) f ≡ first v g → InRange v
 unfolding first_of
-told_in_range form none v g e = never (cc)
-told_in_range form (some l) v g e = go (read_as form (field l)) refl e
+told_in_range form None v g e = never (cc)
+told_in_range form (Some l) v g e = go (read_as form (field l)) refl e
   where
-    go : (x : Field) → read_as form (field l) ≡ x → on_field x nothing (λ u. first u (rest l)) ≡ first v g → InRange v
-    go Bad is e = never (cc)
-    go (Good u) is e = let same : u ≡ v = cc in in_form form (field l) v (is ∙ ap Good same)
+    go : (x : Option ℤ) → read_as form (field l) ≡ x → on_field x nothing (λ u. first u (rest l)) ≡ first v g → InRange v
+    go None is e = never (cc)
+    go (Some u) is e = let same : u ≡ v = cc in in_form form (field l) v (is ∙ ap Some same)
 
 -- ---- one pair more
 
@@ -65,7 +62,7 @@ module _ (l : List ℕ) (n i : ℕ) where
   one_more found event v (unpaired k) = refl
   one_more found event v (pairs ps) = or_assoc found _ _
 
-  module _ (form : List ℕ → Field) (found : Bool) (k : ℕ) (f : Option (List ℕ)) where
+  module _ (form : List ℕ → Option ℤ) (found : Bool) (k : ℕ) (f : Option (List ℕ)) where
     pub no_event : (left : ℕ) → 0 < left → first_of whole_of f ≡ nothing → false ≡ Found found (pairs_of form k left f)
     unfolding pairs_of behind_found
     no_event zero h e = absurd (omega arith)
@@ -90,12 +87,12 @@ module _ (l : List ℕ) (n i : ℕ) where
   same_pair a b c = rw (a, b, c)
 
   -- so many pairs in a form are left, from some field on, of these
-  pub record Left (form : List ℕ → Field) (all : Pairs) (found : Bool) (left : ℕ) (f : Option (List ℕ)) : Type 0 where
+  pub record Left (form : List ℕ → Option ℤ) (all : Pairs) (found : Bool) (left : ℕ) (f : Option (List ℕ)) : Type 0 where
     pub from : ℕ
     pub same : Found false all ≡ Found found (pairs_of form from left f)
 
   -- no pair is left
-  module _ (form : List ℕ → Field) (found : Bool) (k left : ℕ) (s : List ℕ) (at : ℕ) (all : left ≤ 0) where
+  module _ (form : List ℕ → Option ℤ) (found : Bool) (k left : ℕ) (s : List ℕ) (at : ℕ) (all : left ≤ 0) where
     none_left : left ≡ 0
     none_left = omega arith
 
@@ -115,21 +112,21 @@ module _ (l : List ℕ) (n i : ℕ) where
     no_pairs m e = rw e (go f)
       where
         go : (f : Option (List ℕ)) → false ≡ Found false (pairs_of (told_for kind) 6 0 f)
-        go none = refl
-        go (some s) = refl
+        go None = refl
+        go (Some s) = refl
 
     pub too_many_lem : (m : ℕ) → 16 < m → false ≡ Found false (pairs_for kind m f)
     unfolding pairs_for behind_found
     too_many_lem zero h = absurd (omega arith)
     too_many_lem (suc m) h = rw (lt-leb (suc m) 16 h)
 
-    module _ {quoted : List ℕ → Field} (is-quoted : quoted ≡ quoted_for u) where
+    module _ {quoted : List ℕ → Option ℤ} (is-quoted : quoted ≡ quoted_for u) where
       pub no_quote : (m : ℕ) → (m ≡ 0 → ⊥) → m ≤ 16 → first_of quoted f ≡ nothing → false ≡ Found false (pairs_for kind m f)
       unfolding pairs_for behind_found
       no_quote zero some-are few e = absurd (some-are refl)
       no_quote (suc m) some-are few e = rw (le-leb (suc m) 16 few, ← same, ← is-quoted, e)
 
-      pub quote : (m : ℕ) → (m ≡ 0 → ⊥) → m ≤ 16 → {told : List ℕ → Field} → told ≡ told_for u → (d : ℤ) (g : Option (List ℕ)) → first_of quoted f ≡ first d g
+      pub quote : (m : ℕ) → (m ≡ 0 → ⊥) → m ≤ 16 → {told : List ℕ → Option ℤ} → told ≡ told_for u → (d : ℤ) (g : Option (List ℕ)) → first_of quoted f ≡ first d g
           → Found false (pairs_of told 7 m g) ≡ Found false (pairs_for kind m f)
       unfolding pairs_for
       quote zero some-are few is_told d g e = absurd (some-are refl)
@@ -142,12 +139,12 @@ module _ (l : List ℕ) (n i : ℕ) where
   found_none (unpaired k) = refl
   found_none (pairs ps) = refl
 
-  module _ (s : List ℕ) (r : Opening) (told : Tells s (begun_of s r) (head_of s) (begun_next r)) where
-    pub no_head : (fault : Fault) (k : ℕ) → r ≡ Opening.Bad fault k → false ≡ pairs_differ l n i (pairs_in s)
+  module _ (s : List ℕ) (r : Result (Head × ℕ) (Fault × ℕ)) (told : Tells s (begun_of s r) (head_of s) (begun_next r)) where
+    pub no_head : (fault : Fault) (k : ℕ) → r ≡ Err (fault, k) → false ≡ pairs_differ l n i (pairs_in s)
     unfolding pairs_in pairs_behind begun_of any_differs
     no_head fault k e = let is : head_of s ≡ bad fault k = sym told.is ∙ ap (begun_of s) e in rw is
 
-    pub with_head : (h : Head) (next : ℕ) → r ≡ Opening.Six h next → {kind : ℤ} → kind ≡ h.kind → {d : Bool} → d ≡ Found false (pairs_for kind h.count (rest_at s next))
+    pub with_head : (h : Head) (next : ℕ) → r ≡ Ok (h, next) → {kind : ℤ} → kind ≡ h.kind → {d : Bool} → d ≡ Found false (pairs_for kind h.count (rest_at s next))
         → d ≡ pairs_differ l n i (pairs_in s)
     unfolding pairs_in pairs_behind begun_of
     with_head h next e k d =

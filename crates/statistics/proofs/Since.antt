@@ -1,6 +1,5 @@
 -- A time counted from one microsecond before the least that the format holds, and a record put to others.
-use Rattle.std.proofs.Common.{◌≡◌, ℕ, suc, ◌+◌, ◌%◌, ◌^◌, ◌≤◌, T, ℤ, pos, negsuc, ◌+ℤ◌, nat_abs, refl, ap, ◌∙◌, arith, to_z-of_z, w64, Fits, SFits, to_z, of_z, le-ltb}
-use lib.Signed.{non_neg}
+use Rattle.std.proofs.Common.{◌≡◌, ℕ, suc, ◌+◌, ◌%◌, ◌^◌, ◌≤◌, ℤ, pos, negsuc, ◌+ℤ◌, nat_abs, refl, ap, ◌∙◌, arith, to_z-of_z, w64, SFits, to_z, of_z, le-ltb}
 use Rattle.reading.specs.Tidy.{InRange}
 use Rattle.signed.specs.Codes.{code_of}
 use Rattle.paper.specs.Statistics.{length_in}
@@ -41,10 +40,6 @@ module _ {t : ℤ} (fits : SFits w64 t) (h : InRange t) where
 
   back_is : to_z w64 (of_z w64 (to_z w64 (of_z w64 t) +ℤ pos 1000000000000000)) ≡ pos (since_least t)
   back_is = to_z-of_z sum_fits ∙ sum_is
-
-  pub sum_plain : T (non_neg (to_z w64 (of_z w64 (to_z w64 (of_z w64 t) +ℤ pos 1000000000000000))))
-      × Fits w64 (nat_abs (to_z w64 (of_z w64 (to_z w64 (of_z w64 t) +ℤ pos 1000000000000000))))
-  sum_plain = rw back_is (tt, record { fits = omega (arith, since_low t h) })
 
   pub sum_told : nat_abs (to_z w64 (of_z w64 (to_z w64 (of_z w64 t) +ℤ pos 1000000000000000))) ≡ since_least t
   sum_told = ap nat_abs back_is

@@ -1,5 +1,5 @@
 -- What is kept: at the start, what a search finds by it, and with a record more.
-use Rattle.std.proofs.Common.{◌≡◌, ℕ, zero, suc, ◌+◌, ◌-◌, ◌*◌, ◌%◌, ◌^◌, ◌<◌, ◌≤◌, Bool, true, false, eqb, List, length, get_or, set, replicate, ℤ, pos, sym, refl, ap, ◌∙◌, true≢false, arith, length-set, get_or-set_other, get_or-set_same, w32, w64, Fits, eq-eqb, eqb-true}
+use Rattle.std.proofs.Common.{◌≡◌, ℕ, zero, suc, ◌+◌, ◌-◌, ◌%◌, ◌^◌, ◌<◌, ◌≤◌, Bool, true, false, eqb, List, length, get_or, set, replicate, ℤ, pos, sym, refl, ap, ◌∙◌, true≢false, arith, length-set, get_or-set_other, get_or-set_same, w32, Fits, eq-eqb, eqb-true}
 use native.Mathlib.Decide.{dec_lt}
 use lib.ListN.{length-replicate}
 use Rattle.paper.specs.Statistics.{summed}
@@ -97,28 +97,27 @@ module _ {l : List ℕ} {n : ℕ} {link counts : List ℕ} {times lengths : List
       unfolding total
       none_found z = record { count = rw (same_total one, z); times = rw (same_total time_in, z); lengths = rw (same_total bytes_in, z) }
 
-      -- or the place of the last one
-      module _ (nz : r ≡ 0 → ⊥) where
-        pub within : r - 1 < i
-        within = omega (arith, found.upto, head.upto)
+    -- or the place of the last one
+    module _ (at : ℕ) (found : Last (under_at l key) (get_or heads b 0) (suc at)) where
+      pub within : at < i
+      within = omega (arith, found.upto, head.upto)
 
-        pub inside : r - 1 < n
-        inside = omega (arith, within, h.some)
+      pub inside : at < n
+      inside = omega (arith, within, h.some)
 
-        its_total : (weight : Entry → ℕ) → total_to weight l (r - 1) ≡ total weight (under key) l i
-        its_total weight =
-            let s : r ≡ suc (r - 1) = omega arith in
-            let same : key_at l (r - 1) ≡ key = under_key l key (r - 1) (found.here (r - 1) s) in
-            rw same (sym (same_total weight ∙ ap (total weight (under key) l) s))
+      its_total : (weight : Entry → ℕ) → total_to weight l at ≡ total weight (under key) l i
+      its_total weight =
+          let same : key_at l at ≡ key = under_key l key at (found.here at refl) in
+          rw same (sym (same_total (suc at) found weight))
 
-        pub all_found : {count time length : ℕ} → count ≡ get_or counts (r - 1) 0 → time ≡ code_of (get_or times (r - 1) (pos 0))
-            → length ≡ code_of (get_or lengths (r - 1) (pos 0)) → TotalOf l key i (record { count = count; times = time; lengths = length })
-        all_found a b c =
-            record {
-              count = a ∙ h.counted (r - 1) within ∙ its_total one;
-              times = b ∙ h.timed (r - 1) within ∙ ap (λ (x : ℕ). x % 2 ^ 64) (its_total time_in);
-              lengths = c ∙ h.sized (r - 1) within ∙ ap (λ (x : ℕ). x % 2 ^ 64) (its_total bytes_in);
-            }
+      pub all_found : {count time length : ℕ} → count ≡ get_or counts at 0 → time ≡ code_of (get_or times at (pos 0))
+          → length ≡ code_of (get_or lengths at (pos 0)) → TotalOf l key i (record { count = count; times = time; lengths = length })
+      all_found a b c =
+          record {
+            count = a ∙ h.counted at within ∙ its_total one;
+            times = b ∙ h.timed at within ∙ ap (λ (x : ℕ). x % 2 ^ 64) (its_total time_in);
+            lengths = c ∙ h.sized at within ∙ ap (λ (x : ℕ). x % 2 ^ 64) (its_total bytes_in);
+          }
 
 -- ---- one record more
 
@@ -128,10 +127,6 @@ module _ {l : List ℕ} {n : ℕ} {link counts : List ℕ} {times lengths : List
   pub place_fits : Fits w32 (i + 1)
   unfolding summed
   place_fits = record { fits = omega (arith, h.few) }
-
-  pub wide_place : Fits w64 (i * 8)
-  unfolding summed
-  wide_place = record { fits = omega (arith, h.few) }
 
   module _ {key : Key} (own : key ≡ key_at l i) {before : Total} (is : TotalOf l key i before) where
     pub few_before : before.count + 1 < 2 ^ 32

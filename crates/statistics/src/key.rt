@@ -11,6 +11,7 @@ pub(crate) struct Key {
 }
 
 // Of the record at place i of a store.
+#[tactic(auto, unfolding(crate::specs::Keys::key_at))]
 pub(crate) fn key_at(store: &[u32], i: usize) -> Key
     ensures { result ≡ key_at store.now i }
 {
@@ -25,22 +26,17 @@ pub(crate) fn key_at(store: &[u32], i: usize) -> Key
 }
 
 // Most records of a bucket are of another event or processor, which are asked first.
+#[tactic(auto, using(crate::proofs::Signs::signed_tests), unfolding(crate::specs::Keys::under, paper::specs::Statistics::is_of))]
 pub(crate) fn is_under(store: &[u32], i: usize, key: Key) -> bool
     ensures { result ≡ under key (entry_from store.now i) }
 {
-    let processor = store::processor_at(store, i);
-    if processor != key.processor {
-        return false;
-    }
-    let event = store::event_at(store, i);
-    if signed::same(event, key.event) {
-        let kind = store::kind_at(store, i);
-        return signed::same(kind, key.kind);
-    }
-    false
+    store::processor_at(store, i) == key.processor
+        && store::event_at(store, i) == key.event
+        && store::kind_at(store, i) == key.kind
 }
 
 // The bucket of a key, one of 1,024.
+#[tactic(auto, unfolding(crate::specs::Keys::bucket_of))]
 pub(crate) fn bucket_of(key: Key) -> usize
     ensures { Bucket key result }
 {

@@ -16,28 +16,18 @@ ghost use Rattle.paper.specs.Statistics.{compared_from};
 ghost use Rattle.store.specs.Layout.{entries_in};
 ghost use Rattle.statistics.specs.Ready.{Lacks, Sized, AllHeld, Holding, Ready};
 
-use paper::{Fault, Stop};
+use crate::total::Sums;
+use paper::{Fault, Refusal};
 
 // The most records of which times are summed modulo 2^64: `summed` in paper.
 const SUMMED: usize = 18445;
 
 // More records than that, or a slice without a place for each of them.
+#[tactic(auto, unfolding(paper::specs::Statistics::summed))]
 fn misfit(records: usize, counts: usize, times: usize, lengths: usize) -> bool
     ensures { Lacks (Sized records counts times lengths) result }
 {
-    if SUMMED < records {
-        return true;
-    }
-    if counts != records {
-        return true;
-    }
-    if times != records {
-        return true;
-    }
-    if lengths != records {
-        return true;
-    }
-    false
+    SUMMED < records || counts != records || times != records || lengths != records
 }
 
 // "A difference is refusal 19 at the first statistics line in the file that has one".
@@ -48,20 +38,29 @@ fn first_difference(
     counts: &mut [u32],
     times: &mut [i64],
     lengths: &mut [i64],
-) -> Stop
+) -> Result<(), Refusal>
     requires { Sized (length link.old) (length counts.old) (length times.old) (length lengths.old) × AllHeld store.now (length link.old) }
     ensures { Holding trace.now store.now (length link.old) → result ≡ compared_from (lines_of trace.now) (entries_in store.now (length link.old)) 0 (entries_in store.now (length link.old)) }
 {
     let mut heads = tally::heads();
-    let mut i: usize = 0;
-    while i < link.len() {
-        if line::line_differs(trace, store, link, counts, times, lengths, &heads, i) {
-            return Stop::At(Fault::OtherStatistics, store::site_at(store, i));
+    for i in 0..link.len() {
+        let sums = Sums {
+            store,
+            link,
+            counts,
+            times,
+            lengths,
+            heads: &heads,
+        };
+        if line::line_differs(trace, sums, i) {
+            return Err(Refusal {
+                fault: Fault::OtherStatistics,
+                site: store::site_at(store, i),
+            });
         }
         tally::add(store, link, counts, times, lengths, &mut heads, i);
-        i += 1;
     }
-    Stop::End
+    Ok(())
 }
 
 // Of the records of a store, as many as the slices have places. The slices are room for the work.
@@ -72,15 +71,15 @@ pub fn compare(
     counts: &mut [u32],
     times: &mut [i64],
     lengths: &mut [i64],
-) -> Stop
+) -> Result<(), Refusal>
     ensures { Ready trace.now store.now (length link.old) (length counts.old) (length times.old) (length lengths.old) → result ≡ compared_from (lines_of trace.now) (entries_in store.now (length link.old)) 0 (entries_in store.now (length link.old)) }
 {
     if misfit(link.len(), counts.len(), times.len(), lengths.len()) {
-        return Stop::End;
+        return Ok(());
     }
     // never, of a store that a trace was read into
     if total::any_beyond(store, link.len()) {
-        return Stop::End;
+        return Ok(());
     }
     first_difference(trace, store, link, counts, times, lengths)
 }

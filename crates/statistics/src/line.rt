@@ -7,142 +7,75 @@ ghost use Rattle.store.specs.Layout.{entry_from};
 ghost use Rattle.statistics.specs.Ready.{Stands, Before, pairs_differ, behind_found, differs_at};
 
 use crate::pair;
-use field::{Form, Got};
-use fields::Opening;
+use crate::total::Sums;
+use field::Form;
 
 // "Those with event field -1 are compared".
+#[tactic(auto, using(crate::proofs::Signs::signed_tests), unfolding(paper::specs::Statistics::is_compared))]
 fn is_compared(store: &[u32], i: usize) -> bool
     ensures { result ≡ is_compared (entry_from store.now i).body }
 {
-    let kind = store::kind_at(store, i);
-    if parts::is_statistics(kind) {
-        let event = store::event_at(store, i);
-        return signed::same(event, -1);
-    }
-    false
+    parts::is_statistics(store::kind_at(store, i)) && store::event_at(store, i) == -1
 }
 
 // n pairs in the form and no more, of which one differs from what the records before record i come to.
-fn pairs_differ(
-    l: &[u8],
-    at: usize,
-    n: usize,
-    form: Form,
-    store: &[u32],
-    link: &[u32],
-    counts: &[u32],
-    times: &[i64],
-    lengths: &[i64],
-    heads: &[u32],
-    i: usize,
-) -> bool
-    requires { Before store.now link.now counts.now times.now lengths.now heads.now i }
-    ensures { result ≡ behind_found store.now (length link.now) i false (pairs_of (read_as form) 7 n (rest_at l.now at)) }
+fn pairs_differ(l: &[u8], at: usize, n: usize, form: Form, sums: Sums, i: usize) -> bool
+    requires { Before sums.store.now sums.link.now sums.counts.now sums.times.now sums.lengths.now sums.heads.now i }
+    ensures { result ≡ behind_found sums.entry.store.now (length sums.entry.link.now) i false (pairs_of (read_as form) 7 n (rest_at l.now at)) }
 {
     let mut found = false;
     let mut p = at;
-    let mut left = n;
-    while 0 < left {
-        let Got::Value(event, second) = field::value_at(l, p, Form::Whole) else {
+    for _ in 0..n {
+        let Some((event, second)) = field::value_at(l, p, Form::Whole) else {
             return false;
         };
-        let Got::Value(told, next) = field::value_at(l, second, form) else {
+        let Some((told, next)) = field::value_at(l, second, form) else {
             return false;
         };
-        found = found | pair::differs(store, link, counts, times, lengths, heads, i, event, told);
+        found |= pair::differs(sums, i, event, told);
         p = next;
-        left -= 1;
     }
-    if l.len() < p {
-        return found;
-    }
-    false
+    l.len() < p && found
 }
 
 // The pairs behind the six fields, of which one differs.
-fn data_differ(
-    l: &[u8],
-    at: usize,
-    kind: i64,
-    n: usize,
-    store: &[u32],
-    link: &[u32],
-    counts: &[u32],
-    times: &[i64],
-    lengths: &[i64],
-    heads: &[u32],
-    i: usize,
-) -> bool
-    requires { Before store.now link.now counts.now times.now lengths.now heads.now i }
-    ensures { result ≡ behind_found store.now (length link.now) i false (pairs_for kind n (rest_at l.now at)) }
+fn data_differ(l: &[u8], at: usize, kind: i64, n: usize, sums: Sums, i: usize) -> bool
+    requires { Before sums.store.now sums.link.now sums.counts.now sums.times.now sums.lengths.now sums.heads.now i }
+    ensures { result ≡ behind_found sums.entry.store.now (length sums.entry.link.now) i false (pairs_for kind n (rest_at l.now at)) }
 {
-    if n == 0 {
+    if n == 0 || 16 < n {
         return false;
     }
-    if 16 < n {
-        return false;
-    }
-    let Got::Value(_, next) = field::value_at(l, at, values::quoted_form(kind)) else {
+    let Some((_, next)) = field::value_at(l, at, values::quoted_form(kind)) else {
         return false;
     };
     let form = values::told_form(kind);
-    pairs_differ(
-        l, next, n, form, store, link, counts, times, lengths, heads, i,
-    )
+    pairs_differ(l, next, n, form, sums, i)
 }
 
 // A line whose bytes are given without its LF, for record i.
-fn bytes_differ(
-    l: &[u8],
-    store: &[u32],
-    link: &[u32],
-    counts: &[u32],
-    times: &[i64],
-    lengths: &[i64],
-    heads: &[u32],
-    i: usize,
-) -> bool
-    requires { Before store.now link.now counts.now times.now lengths.now heads.now i }
-    ensures { result ≡ pairs_differ store.now (length link.now) i (pairs_in l.now) }
+fn bytes_differ(l: &[u8], sums: Sums, i: usize) -> bool
+    requires { Before sums.store.now sums.link.now sums.counts.now sums.times.now sums.lengths.now sums.heads.now i }
+    ensures { result ≡ pairs_differ sums.entry.store.now (length sums.entry.link.now) i (pairs_in l.now) }
 {
-    let Opening::Six(h, next) = fields::read_head(l) else {
+    let Ok((h, next)) = fields::read_head(l) else {
         return false;
     };
-    data_differ(
-        l, next, h.kind, h.count, store, link, counts, times, lengths, heads, i,
-    )
+    data_differ(l, next, h.kind, h.count, sums, i)
 }
 
 // Record i calls for 19, if it is a statistics record that is compared.
-pub(crate) fn line_differs(
-    trace: &[u8],
-    store: &[u32],
-    link: &[u32],
-    counts: &[u32],
-    times: &[i64],
-    lengths: &[i64],
-    heads: &[u32],
-    i: usize,
-) -> bool
-    requires { Before store.now link.now counts.now times.now lengths.now heads.now i }
-    ensures { Stands trace.now store.now i → result ≡ differs_at trace.now store.now (length link.now) i }
+pub(crate) fn line_differs(trace: &[u8], sums: Sums, i: usize) -> bool
+    requires { Before sums.store.now sums.link.now sums.counts.now sums.times.now sums.lengths.now sums.heads.now i }
+    ensures { Stands trace.now sums.entry.store.now i → result ≡ differs_at trace.now sums.entry.store.now (length sums.entry.link.now) i }
 {
-    if is_compared(store, i) {
-        let start = store::start_at(store, i);
-        if trace.len() < start {
-            return false;
-        }
-        let end = octets::find(trace, start, 10);
-        return bytes_differ(
-            &trace[start..end],
-            store,
-            link,
-            counts,
-            times,
-            lengths,
-            heads,
-            i,
-        );
+    if !is_compared(sums.store, i) {
+        return false;
     }
-    false
+    let start = store::start_at(sums.store, i);
+    if trace.len() < start {
+        return false;
+    }
+    let end = octets::find(trace, start, 10);
+    bytes_differ(&trace[start..end], sums, i)
 }

@@ -6,6 +6,7 @@ ghost use Rattle.reading.specs.Tidy.{InRange};
 ghost use Rattle.store.specs.Layout.{entry_from};
 ghost use Rattle.statistics.specs.Tallied.{Tallied};
 
+use crate::total::Sums;
 use crate::{key, total};
 
 // No record is in a bucket yet.
@@ -29,7 +30,15 @@ pub(crate) fn add(
     ensures { Tallied store.now (length link.old) link.new counts.new times.new lengths.new heads.new (i + 1) }
 {
     let key = key::key_at(store, i);
-    let before = total::total_of(store, link, counts, times, lengths, heads, i, key);
+    let sums = Sums {
+        store,
+        link,
+        counts,
+        times,
+        lengths,
+        heads,
+    };
+    let before = total::total_of(sums, i, key);
     let all = total::with_record(store, i, before);
     let b = key::bucket_of(key);
     let behind = (i + 1) as u32;

@@ -2,7 +2,7 @@
 ghost use Rattle.std.specs.Prelude.{◌≡◌, ◌+◌, ◌^◌, ◌<◌, length};
 ghost use Rattle.paper.specs.Statistics.{length_in};
 ghost use Rattle.reading.specs.Tidy.{InRange};
-ghost use Rattle.chains.specs.Chains.{Last};
+ghost use Rattle.chains.specs.Chains.{Last, behind};
 ghost use Rattle.store.specs.Layout.{entry_from};
 ghost use Rattle.statistics.specs.Keys.{under_at, bucket_of};
 ghost use Rattle.statistics.specs.Totals.{since_least, with_one};
@@ -22,52 +22,50 @@ pub(crate) struct Total {
     pub lengths: u64,
 }
 
-// The place of the last record under the key before place `from`, and one, along the chain of its bucket; 0 where there is none.
-fn last_under(store: &[u32], link: &[u32], from: u32, key: Key) -> usize
+// The records of a store and what is kept of those that were added, by which they are found and told: `Tallied`.
+#[derive(Clone, Copy)]
+pub(crate) struct Sums<'a> {
+    pub store: &'a [u32],
+    pub link: &'a [u32],
+    pub counts: &'a [u32],
+    pub times: &'a [i64],
+    pub lengths: &'a [i64],
+    pub heads: &'a [u32],
+}
+
+// The place of the last record under the key before place `from`, along the chain of its bucket.
+fn last_under(store: &[u32], link: &[u32], from: u32, key: Key) -> Option<usize>
     requires { Backward store.now link.now (bucket_of key) from }
-    ensures { Last (under_at store.now key) from result }
+    ensures { Last (under_at store.now key) from (behind result) }
 {
     let mut p = from as usize;
     while 0 < p {
         let at = p - 1;
         if key::is_under(store, at, key) {
-            return p;
+            return Some(at);
         }
         p = link[at] as usize;
     }
-    0
+    None
 }
 
 // Of the records under the key among those that were added, which are `upto`: the work does not ask how many these are.
-pub(crate) fn total_of(
-    store: &[u32],
-    link: &[u32],
-    counts: &[u32],
-    times: &[i64],
-    lengths: &[i64],
-    heads: &[u32],
-    upto: usize,
-    key: Key,
-) -> Total
-    requires { Tallied store.now (length link.now) link.now counts.now times.now lengths.now heads.now upto }
-    ensures { TotalOf store.now key upto result }
+pub(crate) fn total_of(sums: Sums, upto: usize, key: Key) -> Total
+    requires { Tallied sums.store.now (length sums.link.now) sums.link.now sums.counts.now sums.times.now sums.lengths.now sums.heads.now upto }
+    ensures { TotalOf sums.entry.store.now key upto result }
 {
     let b = key::bucket_of(key);
-    let last = last_under(store, link, heads[b], key);
-    if last == 0 {
+    let Some(at) = last_under(sums.store, sums.link, sums.heads[b], key) else {
         return Total {
             count: 0,
             times: 0,
             lengths: 0,
         };
-    }
-    let at = last - 1;
-    let time = times[at];
-    let length = lengths[at];
+    };
     Total {
-        count: counts[at],
-        times: signed::code(time),
-        lengths: signed::code(length),
+        count: sums.counts[at],
+        times: signed::code(sums.times[at]),
+        lengths: signed::code(sums.lengths[at]),
     }
 }
 
@@ -82,13 +80,13 @@ pub(crate) fn since_least(time: i64) -> u64
 }
 
 // The length of the message that a record sends or receives.
+#[tactic(auto, unfolding(paper::specs::Statistics::length_in))]
 fn length_in(role: Role) -> u64
     ensures { result ≡ length_in role }
 {
     match role {
         Role::Neither => 0,
-        Role::Send(m) => m.length,
-        Role::Receive(m) => m.length,
+        Role::Send(m) | Role::Receive(m) => m.length,
     }
 }
 
@@ -96,24 +94,18 @@ fn length_in(role: Role) -> u64
 fn is_beyond(store: &[u32], i: usize) -> bool
     ensures { Lacks (Held (entry_from store.now i)) result }
 {
-    let time = signed::code(store::time_at(store, i));
-    if 1_999_999_999_999_998 < time {
-        return true;
-    }
-    let length = length_in(store::role_at(store, i));
-    999_999_999 < length
+    1_999_999_999_999_998 < signed::code(store::time_at(store, i))
+        || 999_999_999 < length_in(store::role_at(store, i))
 }
 
 // One of so many records is such.
 pub(crate) fn any_beyond(store: &[u32], records: usize) -> bool
     ensures { Lacks (AllHeld store.now records) result }
 {
-    let mut i: usize = 0;
-    while i < records {
+    for i in 0..records {
         if is_beyond(store, i) {
             return true;
         }
-        i += 1;
     }
     false
 }
@@ -127,7 +119,7 @@ pub(crate) fn with_record(store: &[u32], i: usize, before: Total) -> Total
     let length = length_in(store::role_at(store, i));
     Total {
         count: before.count + 1,
-        times: std::num::wrapping_add_u64(before.times, time),
-        lengths: std::num::wrapping_add_u64(before.lengths, length),
+        times: before.times.wrapping_add(time),
+        lengths: before.lengths.wrapping_add(length),
     }
 }

@@ -3,11 +3,14 @@ use Prim.Native.Nat.{ℕ, ◌≤◌, ◌<◌}
 use mathlib.Core.Path.{◌≡◌}
 use mathlib.Core.Bool.{Bool, true, false}
 use mathlib.Core.List.{List}
-use borrow.Author.Tests.{lt-ltb, le-ltb}
+use mir.Syntax.{w64}
+use mir.Val.{SFits, of_z}
+use borrow.Author.Tests.{lt-ltb, le-ltb, eq-eqb, ne_eqb}
 use lib.ListN.{length}
 use lib.IntN.{ℤ, pos, ◌+ℤ◌}
 use Rattle.paper.specs.Clock.{time_at}
 use Rattle.paper.specs.Tests.{eq_z}
+use Rattle.signed.proofs.Equal.{bits_same}
 use Rattle.steps.specs.Tables.{exact_at, end_rank}
 
 module _ (times : List ℤ) (wait none i j : ℕ) where
@@ -25,14 +28,11 @@ module _ (times : List ℤ) (wait none i j : ℕ) where
     unfolding exact_at
     exact_lost t = rw (lt-ltb j (length times) l, ← time, ← earlier, ← e, t)
 
-module _ (time original : ℤ) (none : ℕ) {told : Bool} (e : told ≡ eq_z time original) where
-  pub end_here : told ≡ true → 0 ≡ end_rank time original none
+module _ (time original : ℤ) (none : ℕ) (fits-time : SFits w64 time) (fits-original : SFits w64 original) where
+  pub end_here : of_z w64 time ≡ of_z w64 original → 0 ≡ end_rank time original none
   unfolding end_rank
-  end_here t = rw (← e, t)
+  end_here e = rw (← bits_same fits-time fits-original, eq-eqb _ _ e)
 
-  pub end_later : told ≡ false → none ≡ end_rank time original none
+  pub end_later : ¬ (of_z w64 time ≡ of_z w64 original) → none ≡ end_rank time original none
   unfolding end_rank
-  end_later t = rw (← e, t)
-
-pub end_told : (none : ℕ) {a b time original : ℤ} → a ≡ time → b ≡ original → {told : ℕ} → told ≡ end_rank a b none → told ≡ end_rank time original none
-end_told none p q e = rw (← p, ← q) e
+  end_later n = rw (← bits_same fits-time fits-original, ne_eqb _ _ n)

@@ -1,4 +1,5 @@
--- `Laws`, `Filling` and `Before` are what the functions' proofs cite, `Exact` and `Before` what a caller does.
+-- `Laws`, `Filling` and `Before` are what the functions' proofs cite, `Exact` and `Before` what a caller does; `Exactly` and `Cases` are for whoever proves.
+pub mod Cases
 pub mod Exactly
 pub mod Laws
 pub mod Filling

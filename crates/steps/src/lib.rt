@@ -7,25 +7,16 @@ ghost use Rattle.paper.specs.Tests.{eq_z};
 ghost use Rattle.paper.specs.Clock.{time_at};
 ghost use Rattle.steps.specs.Tables.{exact_at, exact_table, processor_steps, end_rank, end_ranks};
 
-fn wide(n: u32) -> u64
-    ensures { result ≡ n }
-{
-    n as u64
-}
-
 pub fn wait_at(waits: &[u32], i: usize) -> u64
     ensures { result ≡ get_or waits.now i 0 }
 {
-    wide(waits::number_at(waits, i))
+    u64::from(waits::number_at(waits, i))
 }
 
 pub fn time_at(times: &[i64], i: usize) -> i64
     ensures { result ≡ time_at times.now i }
 {
-    if i < times.len() {
-        return times[i];
-    }
-    0
+    times.get(i).copied().unwrap_or(0)
 }
 
 // ---- one record
@@ -34,10 +25,7 @@ pub fn time_at(times: &[i64], i: usize) -> i64
 pub fn kept(time: i64, earlier: i64, wait: u64) -> bool
     ensures { result ≡ eq_z time (earlier +ℤ pos wait) }
 {
-    if signed::earlier(time, earlier) {
-        return false;
-    }
-    signed::apart(earlier, time) == wait
+    earlier <= time && signed::apart(earlier, time) == wait
 }
 
 // The place `j`, if record `i` waits for that one and the wait is kept exactly, or else `none`.
@@ -45,33 +33,25 @@ fn exact_at(times: &[i64], wait: u64, none: u32, i: usize, j: u32) -> u32
     ensures { result ≡ exact_at times.now wait none i j }
 {
     let at = j as usize;
-    if times.len() <= at {
-        return none;
+    if at < times.len() && kept(time_at(times, i), times[at], wait) {
+        j
+    } else {
+        none
     }
-    if kept(time_at(times, i), times[at], wait) {
-        return j;
-    }
-    none
 }
 
 // "an unmoved record is alone in its chain": no step leads on from it.
 fn end_rank(time: i64, original: i64, none: u32) -> u32
     ensures { result ≡ end_rank time original none }
 {
-    if signed::same(time, original) {
-        return 0;
-    }
-    none
+    if time == original { 0 } else { none }
 }
 
 // Where a chain goes on with so many steps left: to the processor's step where that is one with as many, else to the send's.
 pub fn onward(first: u32, second: u32, rank: usize, left: usize) -> u32
     ensures { result ≡ cond (eqb rank left) first second }
 {
-    if rank == left {
-        return first;
-    }
-    second
+    if rank == left { first } else { second }
 }
 
 // ---- all of them
@@ -80,10 +60,8 @@ pub fn onward(first: u32, second: u32, rank: usize, left: usize) -> u32
 pub fn keep_exact(times: &[i64], waits: &[u32], none: u32, table: &mut [u32])
     ensures { table.new ≡ exact_table times.now waits.now none table.old }
 {
-    let mut i: usize = 0;
-    while i < table.len() {
-        table[i] = exact_at(times, wait_at(waits, i), none, i, table[i]);
-        i += 1;
+    for (i, step) in table.iter_mut().enumerate() {
+        *step = exact_at(times, wait_at(waits, i), none, i, *step);
     }
 }
 
@@ -93,22 +71,17 @@ pub fn keep_exact(times: &[i64], waits: &[u32], none: u32, table: &mut [u32])
 pub fn processor_steps(store: &[u32], times: &[i64], share: u32, out: &mut [u32])
     ensures { out.new ≡ processor_steps store.now times.now share out.old }
 {
-    if store::TOO_MANY <= out.len() {
-        return;
-    }
-    if 1000 < share {
+    if store::TOO_MANY <= out.len() || 1000 < share {
         return;
     }
     let n = out.len();
     // of each processor the place of its last record so far
     let mut last = waits::for_each(n as u32);
-    let mut i: usize = 0;
-    while i < out.len() {
+    for (i, step) in out.iter_mut().enumerate() {
         let p = store::processor_at(store, i);
         let gap = waits::gap_at(store, share, n, i, last[p]);
-        out[i] = exact_at(times, gap, n as u32, i, last[p]);
+        *step = exact_at(times, gap, n as u32, i, last[p]);
         last[p] = i as u32;
-        i += 1;
     }
 }
 
@@ -116,9 +89,7 @@ pub fn processor_steps(store: &[u32], times: &[i64], share: u32, out: &mut [u32]
 pub fn end_ranks(originals: &[i64], times: &[i64], none: u32, ranks: &mut [u32])
     ensures { ranks.new ≡ end_ranks originals.now times.now none ranks.old }
 {
-    let mut i: usize = 0;
-    while i < ranks.len() {
-        ranks[i] = end_rank(time_at(times, i), time_at(originals, i), none);
-        i += 1;
+    for (i, rank) in ranks.iter_mut().enumerate() {
+        *rank = end_rank(time_at(times, i), time_at(originals, i), none);
     }
 }

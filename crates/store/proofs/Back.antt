@@ -1,9 +1,9 @@
 -- A small record is read back from its numbers, part by part.
+use Rattle.std.specs.Prelude.{Some, None}
 use Prim.Native.Nat.{ℕ, ◌+◌, ◌*◌, ◌/◌, ◌%◌, ◌<◌, ◌≤◌, ◌^◌}
 use mathlib.Core.Path.{◌≡◌, refl}
 use mathlib.Core.List.{List, ◌++◌}
 use mathlib.Core.Bool.{Bool, true, false, cond}
-use mathlib.Core.Option.{some, none}
 use native.Mathlib.Omega.{arith}
 use borrow.Author.Tests.{leb-true}
 use lib.Dec.{leb, leb-zero}
@@ -61,11 +61,11 @@ values_back Others t = refl
 abbrev message_in : (a b c : ℤ) → Message
 message_in a b c = record { length = word (code_of a) / 2; tag = decoded (word (code_of b)); peer = word (code_of c) / 2 % 64 }
 
-three_back : (a b c : ℤ) (m : Message) → TidyData (Three a b c) → message_of (Three a b c) ≡ some m → message_in a b c ≡ m
+three_back : (a b c : ℤ) (m : Message) → TidyData (Three a b c) → message_of (Three a b c) ≡ Some m → message_in a b c ≡ m
 unfolding message_of
 three_back (pos n) b (pos k) m t e = go (leb k 63) refl (rw (leb-zero n, leb-zero k) at e)
   where
-    go : (low : Bool) → leb k 63 ≡ low → cond low (some (record { length = n; tag = b; peer = k })) none ≡ some m → message_in (pos n) b (pos k) ≡ m
+    go : (low : Bool) → leb k 63 ≡ low → cond low (Some (record { length = n; tag = b; peer = k })) None ≡ Some m → message_in (pos n) b (pos k) ≡ m
     go true u e =
         let same : ◌≡◌ {A = Message} (record { length = n; tag = b; peer = k }) m = cc in
         let peer : k % 64 ≡ k = omega (arith, leb-true k 63 u) in
@@ -74,7 +74,7 @@ three_back (pos n) b (pos k) m t e = go (leb k 63) refl (rw (leb-zero n, leb-zer
 three_back (pos n) b (negsuc k) m t e = let never = rw (leb-zero n) at e in cc
 three_back (negsuc n) b c m t e = cc
 
-message_back : (d : Data) (m : Message) → TidyData d → message_of d ≡ some m → message_in (datum d 0) (datum d 1) (datum d 2) ≡ m
+message_back : (d : Data) (m : Message) → TidyData d → message_of d ≡ Some m → message_in (datum d 0) (datum d 1) (datum d 2) ≡ m
 unfolding datum message_of
 message_back (Three a b c) m t e = three_back a b c m t e
 message_back Others m t e = cc

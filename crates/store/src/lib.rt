@@ -39,11 +39,7 @@ pub fn put(store: &mut [u32], i: usize, line: usize, start: usize, body: Record)
     }
     let at = i * WIDTH;
     let numbers = numbers::numbers_of(line, start, body);
-    let mut k: usize = 0;
-    while k < WIDTH {
-        store[at + k] = numbers[k];
-        k += 1;
-    }
+    store[at..at + WIDTH].copy_from_slice(&numbers);
 }
 
 // ---- the record at place i, part by part
@@ -53,7 +49,7 @@ pub fn time_at(store: &[u32], i: usize) -> i64
 {
     let low = parts::part(store, i, 0);
     let high = parts::part(store, i, 1);
-    signed::from_code(low as u64 + 4294967296 * (high as u64))
+    signed::from_code(u64::from(low) + 4_294_967_296 * u64::from(high))
 }
 
 pub fn processor_at(store: &[u32], i: usize) -> usize

@@ -26,7 +26,7 @@ pub(crate) fn whole(store: &[u32], i: usize, k: usize) -> i64
     ensures { result ≡ decoded (part_at store.now i k) }
 {
     let code = part(store, i, k);
-    signed::from_code(code as u64)
+    signed::from_code(u64::from(code))
 }
 
 pub(crate) fn message(store: &[u32], i: usize) -> Message
@@ -36,7 +36,7 @@ pub(crate) fn message(store: &[u32], i: usize) -> Message
     let tag = whole(store, i, 8);
     let peer = part(store, i, 9);
     Message {
-        length: (length / 2) as u64,
+        length: u64::from(length / 2),
         tag,
         peer: (peer / 2 % 64) as usize,
     }

@@ -1,10 +1,10 @@
 -- The turn of the loop that fills the latencies: those before place i stand, and the bytes from 4 * i on give the others.
-use Prim.Native.Nat.{ℕ, suc, ◌+◌, ◌*◌, ◌≤◌, ◌<◌}
+use Prim.Native.Nat.{ℕ, ◌+◌, ◌*◌, ◌≤◌, ◌<◌}
 use mathlib.Core.Path.{◌≡◌, refl, sym, ◌∙◌}
-use mathlib.Core.List.{List, [], ◌∷◌, ◌++◌, append_assoc, append-nil}
+use mathlib.Core.List.{List, ◌∷◌, ◌++◌, append_assoc, append-nil}
 use native.Mathlib.Omega.{arith}
 use native.Mathlib.Numerals.{add-one}
-use lib.ListN.{length, take, drop, get_or, set, drop_of_length-le}
+use lib.ListN.{length, take, drop, get_or, set, length-set, drop_of_length-le}
 use lib.Seq.{drop-cons, take-suc-set, take_all}
 use Rattle.table.specs.Table.{low_first, latencies_of, latency_at}
 
@@ -24,12 +24,23 @@ first s at h =
     let t = next s (at + 3) (at + 4) (omega arith) (omega arith) in
     rw (p, q, r, t) (four _ _ _ _ _)
 
-module _ (s l : List ℕ) (i : ℕ) (inv : latencies_of s ≡ take i l ++ latencies_of (drop (4 * i) s)) where
-  pub turn : i < length l → 4 * i + 3 < length s → latencies_of s ≡ take (i + 1) (set l i (latency_at s (4 * i))) ++ latencies_of (drop (4 * (i + 1)) s)
-  turn h k =
-      let e : 4 * (i + 1) ≡ 4 * i + 4 = omega arith in
-      inv ∙ rw (e, first s (4 * i) k, add-one i, take-suc-set l i (latency_at s (4 * i)) h, append_assoc)
+-- the latencies before place i stand
+pub record Filled (s l : List ℕ) (i : ℕ) : Type 0 where
+  pub long : length s ≡ 4 * length l
+  pub is : latencies_of s ≡ take i l ++ latencies_of (drop (4 * i) s)
 
-  pub end : length l ≤ i → length s ≤ 4 * i → l ≡ latencies_of s
+module _ {s l : List ℕ} {i : ℕ} (filled : Filled s l i) where
+  pub turn : i < length l → {n : ℕ} → n ≡ latency_at s (4 * i) → Filled s (set l i n) (i + 1)
+  turn h {n} e =
+      let four_on : 4 * (i + 1) ≡ 4 * i + 4 = omega arith in
+      let room : 4 * i + 3 < length s = (let long = filled.long in omega arith) in
+      record {
+        long = simp length-set filled.long;
+        is = filled.is ∙ rw (four_on, first s (4 * i) room, ← e, add-one i, take-suc-set l i n h, append_assoc);
+      }
+
+  pub end : length l ≤ i → l ≡ latencies_of s
   unfolding latencies_of
-  end h k = sym (inv ∙ rw (take_all i l h, drop_of_length-le s k) (append-nil l))
+  end h =
+      let read : length s ≤ 4 * i = (let long = filled.long in omega arith) in
+      sym (filled.is ∙ rw (take_all i l h, drop_of_length-le s read) (append-nil l))

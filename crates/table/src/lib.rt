@@ -23,10 +23,8 @@ fn fill(bytes: &[u8], latencies: &mut [u32])
     requires { length bytes.now ≡ 4 * length latencies.old }
     ensures { latencies.new ≡ latencies_of bytes.now }
 {
-    let mut i = 0;
-    while i < latencies.len() {
-        latencies[i] = latency(bytes, 4 * i);
-        i += 1;
+    for (i, entry) in latencies.iter_mut().enumerate() {
+        *entry = latency(bytes, 4 * i);
     }
 }
 
@@ -34,15 +32,5 @@ fn latency(bytes: &[u8], at: usize) -> u32
     requires { at + 3 < length bytes.now }
     ensures { result ≡ latency_at bytes.now at }
 {
-    let a = wide(bytes[at]);
-    let b = wide(bytes[at + 1]);
-    let c = wide(bytes[at + 2]);
-    let d = wide(bytes[at + 3]);
-    a + 256 * b + 65_536 * c + 16_777_216 * d
-}
-
-fn wide(b: u8) -> u32
-    ensures { (result ≡ b) × (result < 256) }
-{
-    b as u32
+    u32::from_le_bytes([bytes[at], bytes[at + 1], bytes[at + 2], bytes[at + 3]])
 }

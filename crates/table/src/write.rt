@@ -18,10 +18,8 @@ fn spread(latencies: &[u32], bytes: &mut [u8])
     requires { length bytes.old ≡ 4 * length latencies.now }
     ensures { bytes.new ≡ bytes_for latencies.now }
 {
-    let mut i = 0;
-    while i < latencies.len() {
-        put_four(bytes, 4 * i, latencies[i]);
-        i += 1;
+    for (i, latency) in latencies.iter().enumerate() {
+        put_four(bytes, 4 * i, *latency);
     }
 }
 
@@ -29,8 +27,6 @@ fn put_four(bytes: &mut [u8], at: usize, n: u32)
     requires { at + 3 < length bytes.old }
     ensures { bytes.new ≡ sets bytes.old at (four_bytes n []) }
 {
-    bytes[at] = (n % 256) as u8;
-    bytes[at + 1] = (n / 256 % 256) as u8;
-    bytes[at + 2] = (n / 65_536 % 256) as u8;
-    bytes[at + 3] = (n / 16_777_216 % 256) as u8;
+    let four = n.to_le_bytes();
+    bytes[at..at + 4].copy_from_slice(&four);
 }

@@ -1,47 +1,60 @@
 -- What is said, by the tests told; and that what the system told leaves one thing to say.
+use Rattle.std.specs.Prelude.{Option, Some, None, Ok, Err}
 use Prim.Native.Nat.{ℕ, ◌≤◌, ◌<◌}
-use mathlib.Core.Path.{◌≡◌, sym, ◌∙◌}
-use mathlib.Core.Bool.{Bool, true, false, not}
+use mathlib.Core.Path.{◌≡◌, refl, sym, ◌∙◌}
+use mathlib.Core.Bool.{Bool, true, false}
 use mathlib.Core.List.{List}
-use mathlib.Core.Option.{Option, none}
 use lib.ListN.{length}
-use borrow.Author.Tests.{lt-ltb, le-ltb, not-true, not-false}
-use Rattle.text.specs.Text.{made_of}
-use Rattle.text.specs.declared.Made.{Made}
+use borrow.Author.Tests.{lt-ltb, le-ltb}
+use Rattle.text.specs.Text.{Made, made_of}
+use Rattle.text.specs.declared.Unmade.{Unmade}
 use Rattle.report.specs.declared.Told.{Told}
-use Rattle.files.specs.File.{file_of}
 use Rattle.files.specs.Told.{ByStored}
-use Rattle.tables.specs.Program.{on_made, on_text, on_file, told_of, ByFile}
+use Rattle.tables.specs.Program.{unmade_told, on_made, on_text, on_file, told_of, ByFile}
 
 -- ---- the text
 
-pub concludes : (text : List ℕ) {made : Made} {told : Told} (stored : Bool) → made ≡ made_of text → told ≡ on_made made stored → ByStored (on_made (made_of text)) told
-concludes text stored m e = record { stored = stored; says = e ∙ rw m }
+pub is_whole : (text : List ℕ) {made : Made} {whole : Unit} {told : Told} → made ≡ made_of text → made ≡ Ok whole → ByStored (on_made (Ok tt)) told → ByStored (on_made (made_of text)) told
+unfolding on_made
+is_whole text m e by = record { stored = by.stored; says = by.says ∙ rw (← m, e) (go by.stored) }
+  where
+    go : {whole : Unit} (stored : Bool) → on_made (Ok tt) stored ≡ on_made (Ok whole) stored
+    go true = refl
+    go false = refl
 
-module _ (read : Bool) (text : List ℕ) where
-  pub not_read : not read ≡ true → ByStored (on_file (file_of read text)) Told.CannotRead
-  unfolding on_file file_of
-  not_read e = record { stored = true; says = rw (not-true read e) }
+pub is_unmade : (text : List ℕ) {made : Made} {unmade : Unmade} {told : Told} → made ≡ made_of text → made ≡ Err unmade → told ≡ unmade_told unmade
+    → ByStored (on_made (made_of text)) told
+unfolding on_made
+is_unmade text m e t = record { stored = true; says = t ∙ rw (← m, e) }
 
-  pub too_long : not read ≡ false → 262144 < length text → ByStored (on_file (file_of read text)) Told.TooLong
-  unfolding on_file file_of on_text
-  too_long e h = record { stored = true; says = rw (not-false read e, lt-ltb 262144 (length text) h) }
+module _ (text : List ℕ) where
+  pub too_long : 262144 < length text → ByStored (on_text text) Told.TooLong
+  unfolding on_text
+  too_long h = record { stored = true; says = rw (lt-ltb 262144 (length text) h) }
 
-  pub reads : {told : Told} → not read ≡ false → length text ≤ 262144 → ByStored (on_made (made_of text)) told → ByStored (on_file (file_of read text)) told
-  unfolding on_file file_of on_text
-  reads e h by = record { stored = by.stored; says = by.says ∙ rw (not-false read e, le-ltb 262144 (length text) h) }
+  pub short : {told : Told} → length text ≤ 262144 → ByStored (on_made (made_of text)) told → ByStored (on_text text) told
+  unfolding on_text
+  short h by = record { stored = by.stored; says = by.says ∙ rw (le-ltb 262144 (length text) h) }
+
+pub not_read : ByFile on_file Told.CannotRead
+unfolding on_file
+not_read = record { text = None; rest = record { stored = true; says = refl } }
+
+pub reads : (text : List ℕ) {told : Told} → ByStored (on_text text) told → ByFile on_file told
+unfolding on_file
+reads text by = record { text = Some text; rest = by }
 
 -- ---- the program
 
 module _ {count : ℕ} where
   pub many : 3 < count → ByFile (told_of count) Told.TooMany
   unfolding told_of
-  many h = record { text = none; rest = record { stored = true; says = rw (lt-ltb 3 count h) } }
+  many h = record { text = None; rest = record { stored = true; says = rw (lt-ltb 3 count h) } }
 
   module _ (few : count ≤ 3) where
     pub unnamed : count < 2 → ByFile (told_of count) Told.CannotRead
     unfolding told_of
-    unnamed h = record { text = none; rest = record { stored = true; says = rw (le-ltb 3 count few, lt-ltb count 2 h) } }
+    unnamed h = record { text = None; rest = record { stored = true; says = rw (le-ltb 3 count few, lt-ltb count 2 h) } }
 
     pub named : {told : Told} → 2 ≤ count → ByFile on_file told → ByFile (told_of count) told
     unfolding told_of

@@ -24,8 +24,7 @@ pub fn run<R: Disk + Env>(rt: &R) {
 
 // What the program does with its arguments. Their count has the program's own name in it.
 pub fn perform<R: Disk>(rt: &R, count: usize, text: &[u8], table: &[u8]) {
-    let told = performed(rt, count, text, table);
-    print::tell(told);
+    print::tell(performed(rt, count, text, table));
 }
 
 // All but the printing.
@@ -52,7 +51,8 @@ fn read_text<R: Disk>(rt: &R, text: &[u8], table: &[u8]) -> Told
     ensures { ByFile on_file result }
 {
     let mut bytes = text_buffer();
-    let loaded = files::load(rt, text, &mut bytes);
-    let n = loaded.len;
-    made::of_text(rt, loaded.ok, &bytes[..n], table)
+    let Some(n) = files::load(rt, text, &mut bytes) else {
+        return Told::CannotRead;
+    };
+    made::of_text(rt, &bytes[..n], table)
 }

@@ -1,13 +1,12 @@
-// From the text's bytes to what is said of them: "cannot read", too long, the table made, and its file.
-ghost use Rattle.std.specs.Prelude.{◌≡◌, length};
+// From the text's bytes to what is said of them: too long, no table made, or the table and its file.
+ghost use Rattle.std.specs.Prelude.{◌≡◌, length, Ok, Err};
 ghost use Rattle.text.specs.Text.{made_of};
-ghost use Rattle.files.specs.File.{file_of};
 ghost use Rattle.files.specs.Told.{ByStored};
-ghost use Rattle.tables.specs.Program.{on_made, on_file};
+ghost use Rattle.tables.specs.Program.{unmade_told, on_made, on_text};
 
 use files::Disk;
 use report::Told;
-use text::Made;
+use text::Unmade;
 
 // The longest text.
 const LONGEST: usize = 262_144;
@@ -18,45 +17,42 @@ fn no_table() -> [u8; 16384]
     [0; 16384]
 }
 
-// Where the table is not whole, its file is not touched.
-fn store_whole<R: Disk>(rt: &R, made: Made, name: &[u8], bytes: &[u8]) -> bool {
-    match made {
-        Made::Whole => files::store(rt, name, bytes),
-        Made::BadLine(_) => true,
-        Made::Open(_, _) => true,
-    }
-}
-
-fn ended(made: Made, stored: bool) -> Told
-    ensures { result ≡ on_made made stored }
+#[tactic(auto, unfolding(crate::specs::Program::unmade_told))]
+fn unmade_told(unmade: Unmade) -> Told
+    ensures { result ≡ unmade_told unmade }
 {
-    match made {
-        Made::Whole => {
-            if stored {
-                return Told::Written;
-            }
-            Told::CannotWrite
-        }
-        Made::BadLine(line) => Told::BadLine(line as u64),
-        Made::Open(sender, receiver) => Told::Uncovered(sender as u64, receiver as u64),
+    match unmade {
+        Unmade::BadLine(line) => Told::BadLine(line as u64),
+        Unmade::Open(sender, receiver) => Told::Uncovered(sender as u64, receiver as u64),
     }
 }
 
+// What is said of a whole table, by whether its file could be written.
+#[tactic(auto, unfolding(crate::specs::Program::on_made))]
+fn stored_told(stored: bool) -> Told
+    ensures { result ≡ on_made (Ok tt) stored }
+{
+    if stored {
+        Told::Written
+    } else {
+        Told::CannotWrite
+    }
+}
+
+// Where the table is not whole, its file is not touched.
 fn concluded<R: Disk>(rt: &R, text: &[u8], table: &[u8]) -> Told
     ensures { ByStored (on_made (made_of text.now)) result }
 {
     let mut bytes = no_table();
-    let made = text::make(text, &mut bytes);
-    let stored = store_whole(rt, made, table, &bytes);
-    ended(made, stored)
+    match text::make(text, &mut bytes) {
+        Ok(()) => stored_told(files::store(rt, table, &bytes)),
+        Err(unmade) => unmade_told(unmade),
+    }
 }
 
-pub(crate) fn of_text<R: Disk>(rt: &R, read: bool, text: &[u8], table: &[u8]) -> Told
-    ensures { ByStored (on_file (file_of read text.now)) result }
+pub(crate) fn of_text<R: Disk>(rt: &R, text: &[u8], table: &[u8]) -> Told
+    ensures { ByStored (on_text text.now) result }
 {
-    if !read {
-        return Told::CannotRead;
-    }
     if LONGEST < text.len() {
         return Told::TooLong;
     }

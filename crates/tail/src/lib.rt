@@ -5,21 +5,11 @@
 ghost use Rattle.std.specs.Prelude.{◌≡◌, ℕ, ◌+◌, ◌≤◌, List, true, false, length};
 ghost use Rattle.tail.specs.Ends.{Clear, EndsAt};
 
-// Where the line after one that is not read to its end starts.
-#[derive(Clone, Copy)]
-pub enum Ends {
-    At(usize),
-    Doubt,
-}
-
 // The line ends here.
-fn none(n: usize, at: usize) -> Ends
+fn none(n: usize, at: usize) -> Option<usize>
     ensures { (s : List ℕ) → EndsAt s true at n result }
 {
-    if n == 0 {
-        return Ends::At(at);
-    }
-    Ends::Doubt
+    if n == 0 { Some(at) } else { None }
 }
 
 // No LF among sixteen bytes. Every byte is asked, with no way out before the last, so that they are compared all at once.
@@ -28,10 +18,8 @@ fn clear(s: &[u8], at: usize) -> bool
     ensures { result ≡ true → Clear s.now at (at + 16) }
 {
     let mut hit = false;
-    let mut j: usize = 0;
-    while j < 16 {
-        hit = hit | (s[at + j] == 10);
-        j += 1;
+    for j in 0..16 {
+        hit |= s[at + j] == b'\n';
     }
     !hit
 }
@@ -52,31 +40,22 @@ fn skip(s: &[u8], at: usize) -> usize
 }
 
 // "a space and at least one more byte must follow", and then an LF
-fn some(s: &[u8], at: usize, n: usize) -> Ends
+fn some(s: &[u8], at: usize, n: usize) -> Option<usize>
     ensures { EndsAt s.now false at n result }
 {
-    if n == 0 {
-        return Ends::Doubt;
+    if n == 0 || s.len() <= at || s[at] == b'\n' {
+        return None;
     }
-    if s.len() <= at {
-        return Ends::Doubt;
-    }
-    if s[at] == 10 {
-        return Ends::Doubt;
-    }
-    let end = octets::find(s, skip(s, at), 10);
+    let end = octets::find(s, skip(s, at), b'\n');
     if end == s.len() {
-        return Ends::Doubt;
+        return None;
     }
-    Ends::At(end + 1)
+    Some(end + 1)
 }
 
 // "with a data count above zero a space and at least one more byte must follow, otherwise LF. Its other bytes are free."
-pub fn read_end(s: &[u8], ended: bool, at: usize, n: usize) -> Ends
+pub fn read_end(s: &[u8], ended: bool, at: usize, n: usize) -> Option<usize>
     ensures { EndsAt s.now ended at n result }
 {
-    if ended {
-        return none(n, at);
-    }
-    some(s, at, n)
+    if ended { none(n, at) } else { some(s, at, n) }
 }

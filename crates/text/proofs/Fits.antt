@@ -1,37 +1,33 @@
 -- A made table is never refused by 2 or 3: its file has the right length and is read back as the table, which has 4,096 latencies, none
 -- above 1,000,000.
+use Rattle.std.specs.Prelude.{Option, Some, None, Ok, Err}
 use Prim.Native.Nat.{ℕ, zero, suc, ◌+◌, ◌/◌, ◌%◌, ◌≤◌, ◌<◌, ◌^◌}
 use mathlib.Core.Path.{◌≡◌, refl, ap}
 use mathlib.Core.Bool.{Bool, true, false, cond, ◌&&◌}
 use mathlib.Core.List.{List}
-use mathlib.Core.Option.{Option, none, some}
 use native.Mathlib.Omega.{arith}
 use lib.ListN.{length, get_or}
 use borrow.Author.Tests.{le-leb}
 use Rattle.paper.specs.Tests.{all_up_to}
 use Rattle.paper.specs.Answer.{low_latencies}
 use Rattle.paper.specs.Reading.{Lines, done, unended, ended, lines_of}
-use Rattle.rule.specs.Rule.{covers, over, meaning_of}
+use Rattle.rule.specs.Rule.{covers, over, Meaning, meaning_of}
 use Rattle.rule.specs.declared.Rule.{Rule}
-use Rattle.rule.specs.declared.Meaning.{Meaning}
-use Rattle.rule.specs.declared.Meaning.TheVariants.{Nothing, Bad, Sets}
 use Rattle.rule.proofs.Low.{sets_low}
 use Rattle.table.specs.Table.{latencies_of, bytes_for}
 use Rattle.table.proofs.Back.{bytes_back, bytes_long}
-use Rattle.text.specs.Text.{said_of, entry, value_of, places, table_of, only_whole, MadeInto}
-use Rattle.text.specs.declared.Made.{Made}
-use Rattle.text.specs.declared.Made.TheVariants.{Whole, BadLine, Open}
+use Rattle.text.specs.Text.{said_of, entry, value_of, places, table_of, Made, only_whole, MadeInto}
 
 -- ---- what is said is low
 
-over_low : (s r : ℕ) (old : Option ℕ) (meaning : Meaning) → ((rule : Rule) → meaning ≡ Sets rule → rule.latency ≤ 1000000)
+over_low : (s r : ℕ) (old : Option ℕ) (meaning : Meaning) → ((rule : Rule) → meaning ≡ Ok (Some rule) → rule.latency ≤ 1000000)
     → value_of old ≤ 1000000 → value_of (over s r old meaning) ≤ 1000000
 unfolding over value_of
-over_low s r old Nothing low h = h
-over_low s r old Bad low h = h
-over_low s r old (Sets rule) low h = go (covers rule.sender s && covers rule.receiver r)
+over_low s r old (Ok None) low h = h
+over_low s r old (Err bad) low h = h
+over_low s r old (Ok (Some rule)) low h = go (covers rule.sender s && covers rule.receiver r)
   where
-    go : (t : Bool) → value_of (cond t (some rule.latency) old) ≤ 1000000
+    go : (t : Bool) → value_of (cond t (Some rule.latency) old) ≤ 1000000
     go true = low rule refl
     go false = h
 
@@ -43,7 +39,7 @@ said_low s r old (ended l x) h = said_low s r (over s r old (meaning_of l)) x (o
 
 entry_low : (x : Lines) (k : ℕ) → value_of (entry x k) ≤ 1000000
 unfolding entry value_of
-entry_low x k = said_low (k / 64) (k % 64) none x (omega arith)
+entry_low x k = said_low (k / 64) (k % 64) None x (omega arith)
 
 -- ---- the places
 
@@ -93,6 +89,5 @@ unfolding only_whole
 room_long {text} {before} {after} {made} m h = rw m.holds (go made)
   where
     go : (made : Made) → length (only_whole made (bytes_for (table_of text)) before) ≡ 16384
-    go Whole = file_long text
-    go (BadLine n) = h
-    go (Open sender receiver) = h
+    go (Ok whole) = file_long text
+    go (Err unmade) = h

@@ -1,14 +1,17 @@
 -- The first open place.
-use Prim.Native.Nat.{ℕ, zero, suc, ◌+◌, ◌-◌, ◌/◌, ◌%◌, ◌≤◌, ◌<◌}
-use mathlib.Core.Path.{◌≡◌, sym, ◌∙◌}
-use mathlib.Core.List.{List}
-use mathlib.Core.Option.{Option}
+use Rattle.std.specs.Prelude.{Option, Some}
+use Rattle.std.specs.List.{position, position_from}
+use Rattle.std.proofs.lemmas.Iterator.Adapters.{position_from-zero}
+use Prim.Native.Nat.{ℕ, suc, ◌+◌, ◌<◌}
+use mathlib.Core.Path.{◌≡◌, refl, sym, ◌∙◌}
+use mathlib.Core.Bool.{Bool, true, false, cond}
+use mathlib.Core.List.{List, [], ◌∷◌}
 use native.Mathlib.Omega.{arith}
 use lib.ListN.{length, get_or, replicate, length-replicate, get_or-replicate}
-use borrow.Author.Tests.{le-leb, lt-leb}
-use Rattle.text.specs.Text.{open_or, first_open, on_open}
+use lib.Dec.{leb, ltb}
+use borrow.Author.Tests.{leb-true, leb-false, le-ltb, lt-ltb}
+use Rattle.text.specs.Text.{open_or, first_open}
 use Rattle.text.specs.Held.{said_by, held, Unsaid}
-use Rattle.text.specs.declared.Made.TheVariants.{Whole, Open}
 
 -- ---- nothing said
 
@@ -18,27 +21,20 @@ all_open = record { long = length-replicate {A = ℕ} 4096 4294967295; open_yet 
 
 -- ---- the search
 
-open_step : (f : ℕ → Option ℕ) (n k : ℕ) → 0 < n → first_open f n k ≡ open_or k (f k) (first_open f (n - 1) (k + 1))
-unfolding first_open
-open_step f zero k h = absurd (omega arith)
-open_step f (suc n) k h = let e : suc n - 1 ≡ n = omega arith in rw e
+-- of places that hold the list's numbers the first open one is the first whose number is above every latency
+open_from : (l : List ℕ) (k : ℕ) (f : ℕ → Option ℕ) → ((j : ℕ) → j < length l → f (k + j) ≡ said_by (get_or l j 0))
+    → first_open f (length l) k ≡ position_from (ltb 1000000) k l
+unfolding first_open open_or said_by
+open_from [] k f h = refl
+open_from (x ∷ l) k f h =
+    go (leb x 1000000) refl (let q : k + 0 ≡ k = omega arith in rw q at (h 0 (omega arith)))
+    (open_from l (k + 1) f (λ j m. let q : k + 1 + j ≡ k + suc j = omega arith in rw q (h (suc j) (omega arith))))
+  where
+    go : (t : Bool) → leb x 1000000 ≡ t → f k ≡ said_by x → first_open f (length l) (k + 1) ≡ position_from (ltb 1000000) (k + 1) l
+        → open_or k (f k) (first_open f (length l) (k + 1)) ≡ cond (ltb 1000000 x) (Some k) (position_from (ltb 1000000) (k + 1) l)
+    go true p s later = rw (s, p, le-ltb 1000000 x (leb-true x 1000000 p)) later
+    go false p s later = rw (s, p, lt-ltb 1000000 x (leb-false x 1000000 p))
 
-pub open_start : (l : List ℕ) → first_open (held l) (length l - 0) 0 ≡ first_open (held l) (length l) 0
-open_start l = let e : length l - 0 ≡ length l = omega arith in rw e
-
-module _ (l : List ℕ) (k : ℕ) (inv : first_open (held l) (length l - k) k ≡ first_open (held l) (length l) 0) where
-  pub open_none : length l ≤ k → Whole ≡ on_open (first_open (held l) (length l) 0)
-  unfolding on_open first_open
-  open_none h = let e : length l - k ≡ 0 = omega arith in rw (← inv, e)
-
-  module _ (some_left : k < length l) where
-    here : first_open (held l) (length l) 0 ≡ open_or k (held l k) (first_open (held l) (length l - k - 1) (k + 1))
-    here = sym inv ∙ open_step (held l) (length l - k) k (omega arith)
-
-    pub open_here : 1000000 < get_or l k 0 → Open (k / 64) (k % 64) ≡ on_open (first_open (held l) (length l) 0)
-    unfolding on_open open_or held said_by
-    open_here h = rw (here, lt-leb (get_or l k 0) 1000000 h)
-
-    pub open_later : get_or l k 0 ≤ 1000000 → first_open (held l) (length l - (k + 1)) (k + 1) ≡ first_open (held l) (length l) 0
-    unfolding open_or held said_by
-    open_later h = let e : length l - (k + 1) ≡ length l - k - 1 = omega arith in rw (here, le-leb (get_or l k 0) 1000000 h, e)
+pub open_is : (l : List ℕ) → first_open (held l) (length l) 0 ≡ position (ltb 1000000) l
+unfolding held
+open_is l = open_from l 0 (held l) (λ j h. let q : 0 + j ≡ j = omega arith in rw q refl) ∙ sym (position_from-zero (ltb 1000000) l)

@@ -2,8 +2,7 @@
 use Prim.Native.Nat.{ℕ}
 use mathlib.Core.Path.{◌≡◌, sym, ◌∙◌}
 use mathlib.Core.List.{List}
-use Rattle.text.specs.Text.{MadeInto}
-use Rattle.text.specs.declared.Made.{Made}
+use Rattle.text.specs.Text.{Made, MadeInto}
 
 pub one_made : {text before : List ℕ} {r q : Made} {a b : List ℕ} → MadeInto text before r a → MadeInto text before q b → (r ≡ q) × (a ≡ b)
 one_made p q =

@@ -1,16 +1,18 @@
 -- A span filled, a row for each sender filled, and so a rule set.
-use Prim.Native.Nat.{ℕ, ◌+◌, ◌*◌, ◌/◌, ◌%◌, ◌≤◌, ◌<◌}
+use Prim.Native.Nat.{ℕ, ◌+◌, ◌-◌, ◌*◌, ◌/◌, ◌%◌, ◌≤◌, ◌<◌}
 use mathlib.Core.Path.{◌≡◌, refl, sym, ◌∙◌}
 use mathlib.Core.Bool.{Bool, true, false}
 use mathlib.Core.List.{List}
 use native.Mathlib.Omega.{arith}
-use lib.ListN.{length, get_or, set, length-set}
-use lib.Seq.{get_or-set_same, get_or-set_other}
-use lib.Dec.{eqb}
-use borrow.Author.Tests.{eqb-true, eqb-false, ne_eqb}
+use lib.ListN.{length, get_or, take, drop, replicate, length-take, length-drop}
+use lib.Dec.{eqb, leb, ltb}
+use borrow.Rule.Slice.PartMut.{put_mid}
+use Rattle.std.proofs.lemmas.List.{places}
+use Rattle.std.proofs.lemmas.Grind.{common_steps}
+use borrow.Author.Tests.{eqb-true, eqb-false, ne_eqb, leb-true, leb-false, ltb-true, ltb-false}
 use Rattle.rule.specs.Rule.{covers}
 use Rattle.rule.specs.declared.Who.{Who}
-use Rattle.rule.specs.declared.Who.TheVariants.{Every, One, Nobody}
+use Rattle.rule.specs.declared.Who.TheVariants.{Every, One}
 use Rattle.rule.specs.declared.Rule.{Rule}
 use Rattle.text.specs.Held.{within, Spans, filled, Filled, rows_filled, RowsFilled, RuleSet}
 use Rattle.text.specs.declared.spans.Span.{Span}
@@ -22,46 +24,36 @@ pub every_span : {who : Who} → who ≡ Every → Spans who (record { from = 0;
 unfolding covers
 every_span e = record { low = omega arith; high = omega arith; tells = λ p h. rw e (sym (inside 0 64 p (omega arith) h)) }
 
-pub nobody_span : {who : Who} → who ≡ Nobody → Spans who (record { from = 0; to = 0 })
+pub past_span : {who : Who} (processor : ℕ) → who ≡ One processor → 64 ≤ processor → Spans who (record { from = 0; to = 0 })
 unfolding covers
-nobody_span e = record { low = omega arith; high = omega arith; tells = λ p h. rw e (sym (outside 0 0 p (λ a b. omega arith))) }
-
-pub past_span : (processor : ℕ) → 63 < processor → Spans (One processor) (record { from = 0; to = 0 })
-unfolding covers
-past_span processor h =
-    record {
+past_span processor e h =
+    rw e (record {
       low = omega arith;
       high = omega arith;
-      tells = λ p m. ne_eqb processor p (λ e. omega arith) ∙ sym (outside 0 0 p (λ a b. omega arith));
-    }
+      tells = λ p m. ne_eqb processor p (λ q. omega arith) ∙ sym (outside 0 0 p (λ a b. omega arith));
+    })
 
-pub one_span : (processor : ℕ) → processor ≤ 63 → Spans (One processor) (record { from = processor; to = processor + 1 })
+pub one_span : {who : Who} (processor : ℕ) → who ≡ One processor → processor < 64 → Spans who (record { from = processor; to = processor + 1 })
 unfolding covers
-one_span processor h = record { low = omega arith; high = omega arith; tells = λ p m. go p (eqb processor p) refl }
+one_span processor is h = rw is (record { low = omega arith; high = omega arith; tells = λ p m. go p (eqb processor p) refl })
   where
     go : (p : ℕ) (t : Bool) → eqb processor p ≡ t → t ≡ within processor (processor + 1) p
     go p true e = let q = eqb-true processor p e in sym (inside processor (processor + 1) p (omega arith) (omega arith))
     go p false e = let q = eqb-false processor p e in sym (outside processor (processor + 1) p (λ a b. q (omega arith)))
 
-pub same_span : {a b : Who} {span : Span} → a ≡ b → Spans b span → Spans a span
-same_span e s = rw e s
-
 -- ---- one row
 
-pub fill_none : (from n : ℕ) (before : List ℕ) → Filled from from n before before
+pub filled_part : {from to n : ℕ} {before row : List ℕ} → from ≤ to → to ≤ length before → row ≡ replicate (length (take (to - from) (drop from before))) n
+    → Filled from to n before (put_mid from (to - from) before row)
 unfolding filled
-fill_none from n before = record { long = refl; holds = λ k. rw (outside from from k (λ a b. omega arith)) }
-
-pub fill_on : {from n : ℕ} {before now : List ℕ} (i : ℕ) → from ≤ i → i < length now → Filled from i n before now → Filled from (i + 1) n before (set now i n)
-unfolding filled
-fill_on {from} {n} {before} {now} i low h inv = record { long = length-set now i n ∙ inv.long; holds = λ k. go k (eqb k i) refl }
+filled_part {from} {to} {n} {before} {row} low high e =
+    let many : length (take (to - from) (drop from before)) ≡ to - from = rw (length-take, length-drop) (omega arith) in
+    rw (e, many) (record { long = search (arith, places); holds = λ k. go k (leb from k) (ltb k to) refl refl })
   where
-    go : (k : ℕ) (t : Bool) → eqb k i ≡ t → get_or (set now i n) k 0 ≡ filled from (i + 1) n before k
-    go k true e = let q : k ≡ i = eqb-true k i e in rw (q, get_or-set_same now i n 0 h, inside from (i + 1) i low (omega arith))
-    go k false e =
-        let q = eqb-false k i e in
-        get_or-set_other now i k n 0 q ∙ inv.holds k
-        ∙ rw (same_within from i k from (i + 1) k (λ a b. (a, omega arith)) (λ a b. (a, omega arith)))
+    go : (k : ℕ) (s t : Bool) → leb from k ≡ s → ltb k to ≡ t → get_or (put_mid from (to - from) before (replicate (to - from) n)) k 0 ≡ filled from to n before k
+    go k true true p q = let h = leb-true from k p in let m = ltb-true k to q in rw (inside from to k h m) (grind (arith, common_steps, places))
+    go k true false p q = let h = leb-true from k p in let m = ltb-false k to q in rw (outside from to k (λ a b. omega arith)) (grind (arith, common_steps, places))
+    go k false t p q = let h = leb-false from k p in rw (outside from to k (λ a b. omega arith)) (grind (arith, common_steps, places))
 
 -- ---- the rows
 

@@ -1,27 +1,23 @@
 -- A text of latencies: lines, of which the last may lack its LF, "later lines over earlier ones; a pair that no line covers is an error,
 -- not a 0". The latency from sender s to receiver r is number 64 s + r of the table.
-use Rattle.std.specs.Prelude.{ℕ, zero, suc, ◌+◌, ◌/◌, ◌%◌, ◌≡◌, List, [], ◌∷◌}
-use Rattle.std.proofs.Math.Option.{Option, none, some}
+use Rattle.std.specs.Prelude.{ℕ, zero, suc, ◌+◌, ◌/◌, ◌%◌, ◌≡◌, List, [], ◌∷◌, Option, Some, None, Result, Ok, Err}
 use Rattle.paper.specs.Reading.{Lines, done, unended, ended, lines_of}
-use Rattle.rule.specs.Rule.{meaning_of, over}
-use Rattle.rule.specs.declared.Meaning.{Meaning}
-use Rattle.rule.specs.declared.Meaning.TheVariants.{Nothing, Bad, Sets}
+use Rattle.rule.specs.Rule.{Meaning, meaning_of, over}
 use Rattle.table.specs.Table.{bytes_for}
-use Rattle.text.specs.declared.Made.{Made}
-use Rattle.text.specs.declared.Made.TheVariants.{Whole, BadLine, Open}
+use Rattle.text.specs.declared.Unmade.{Unmade}
+use Rattle.text.specs.declared.Unmade.TheVariants.{BadLine, Open}
 
 -- ---- the lines
 
 -- the line itself where it is bad, or else the first bad one below it
 unfoldable pub bad_or : ℕ → Meaning → Option ℕ → Option ℕ
-bad_or n Bad below = some n
-bad_or n Nothing below = below
-bad_or n (Sets rule) below = below
+bad_or n (Err bad) below = Some n
+bad_or n (Ok said) below = below
 
 -- the first bad line, the first of these lines being number n
 unfoldable pub first_bad : ℕ → Lines → Option ℕ
-first_bad n done = none
-first_bad n (unended l) = bad_or n (meaning_of l) none
+first_bad n done = None
+first_bad n (unended l) = bad_or n (meaning_of l) None
 first_bad n (ended l more) = let below = first_bad (n + 1) more in bad_or n (meaning_of l) below
 
 -- what the lines say of the latency from s to r, where `old` was said before them
@@ -34,20 +30,20 @@ said_of s r old (ended l more) = said_of s r (over s r old (meaning_of l)) more
 
 -- what is said at a place of the table
 unfoldable pub entry : Lines → ℕ → Option ℕ
-entry lines k = said_of (k / 64) (k % 64) none lines
+entry lines k = said_of (k / 64) (k % 64) None lines
 
 unfoldable pub open_or : ℕ → Option ℕ → Option ℕ → Option ℕ
-open_or k none later = some k
-open_or k (some latency) later = later
+open_or k None later = Some k
+open_or k (Some latency) later = later
 
 -- the first of n places from k on of which nothing is said
 unfoldable pub first_open : (ℕ → Option ℕ) → ℕ → ℕ → Option ℕ
-first_open f zero k = none
+first_open f zero k = None
 first_open f (suc n) k = let later = first_open f n (k + 1) in open_or k (f k) later
 
 unfoldable pub value_of : Option ℕ → ℕ
-value_of none = 0
-value_of (some latency) = latency
+value_of None = 0
+value_of (Some latency) = latency
 
 -- n places from k on, where something is said of each of them
 unfoldable pub places : (ℕ → Option ℕ) → ℕ → ℕ → List ℕ
@@ -59,13 +55,17 @@ table_of text = places (entry (lines_of text)) 4096 0
 
 -- ---- the answer
 
+-- whether the table is whole
+abbrev pub Made : Type 0
+Made = Result Unit Unmade
+
 unfoldable pub on_open : Option ℕ → Made
-on_open none = Whole
-on_open (some k) = Open (k / 64) (k % 64)
+on_open None = Ok tt
+on_open (Some k) = Err (Open (k / 64) (k % 64))
 
 unfoldable pub on_bad : Option ℕ → Made → Made
-on_bad none made = made
-on_bad (some n) made = BadLine n
+on_bad None made = made
+on_bad (Some n) made = Err (BadLine n)
 
 -- the first bad line, or else the first pair of which nothing is said, or else a whole table
 unfoldable pub made_of : List ℕ → Made
@@ -74,9 +74,8 @@ made_of text = on_bad (first_bad 1 (lines_of text)) (on_open (first_open (entry 
 -- ---- the statement of `make`
 
 unfoldable pub only_whole : Made → List ℕ → List ℕ → List ℕ
-only_whole Whole file before = file
-only_whole (BadLine n) file before = before
-only_whole (Open sender receiver) file before = before
+only_whole (Ok whole) file before = file
+only_whole (Err unmade) file before = before
 
 -- the answer, and the table file's bytes in the room where the table is whole; else the room is as it was
 pub record MadeInto (text before : List ℕ) (made : Made) (after : List ℕ) : Type 0 where

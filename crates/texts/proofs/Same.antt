@@ -1,16 +1,14 @@
 -- Two texts are the same as the library's comparison tells it.
 use Prim.Native.Nat.{ℕ}
-use mathlib.Core.Path.{◌≡◌, refl, sym, ◌∙◌}
-use mathlib.Core.Bool.{Bool, true, false}
-use mathlib.Core.List.{List}
+use mathlib.Core.Path.{◌≡◌, refl}
+use mathlib.Core.List.{List, [], ◌∷◌}
+use lib.Dec.{eqb}
+use lib.Pointwise.{pointwise}
 use Rattle.paper.specs.Text.{is_same}
-use Rattle.forms.proofs.Texts.{same_self, same_means}
 
-pub same_told : (a b : List ℕ) {told : Bool} → (told ≡ true → a ≡ b) × (a ≡ b → told ≡ true) → told ≡ is_same a b
-same_told a b {told} tells = go told (is_same a b) refl refl
-  where
-    go : (s t : Bool) → told ≡ s → is_same a b ≡ t → told ≡ is_same a b
-    go true true p q = p ∙ sym q
-    go true false p q = p ∙ rw (tells.0 p) (sym (same_self b))
-    go false true p q = tells.1 (same_means a b q) ∙ sym q
-    go false false p q = p ∙ sym q
+pub same_told : (a b : List ℕ) → pointwise eqb a b ≡ is_same a b
+unfolding is_same
+same_told [] [] = refl
+same_told [] (y ∷ b) = refl
+same_told (x ∷ a) [] = refl
+same_told (x ∷ a) (y ∷ b) = rw (same_told a b)

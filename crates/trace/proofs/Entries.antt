@@ -1,4 +1,5 @@
 -- The entries that a reading gives: as many as it lists, no more than there is room for, and each held whole by the store.
+use Rattle.std.specs.Prelude.{None}
 use Prim.Native.Nat.{ℕ, suc, ◌+◌, ◌≤◌, ◌<◌, ◌^◌}
 use mathlib.Core.Path.{◌≡◌, refl, ◌∙◌}
 use mathlib.Core.List.{List, []}
@@ -14,7 +15,6 @@ use Rattle.paper.specs.Reading.{Lines, done, unended, ended, lines_of, State, Re
 use Rattle.paper.specs.declared.Choice.{Choice}
 use Rattle.paper.specs.declared.Fault.TheVariants as Fault
 use Rattle.paper.specs.declared.Record.{Record}
-use Rattle.paper.specs.declared.Spot.TheVariants.{Whole}
 use Rattle.paper.specs.declared.Line.{Line}
 use Rattle.paper.specs.declared.Line.TheVariants.{Refused, Passed, Listed}
 use Rattle.reading.specs.Joined.{line_count}
@@ -30,7 +30,7 @@ checked_listed most st (Refused fault spot) r e = absurd (let q : ◌≡◌ {A =
 checked_listed most st Passed r e = absurd (let q : ◌≡◌ {A = ℕ} 0 1 = cc in omega arith)
 checked_listed most st (Listed q) r e = go (lt_z q.time (get_or st.last q.processor (pos 0))) (leb most st.listed) refl e
   where
-    go : (a b : Bool) → leb most st.listed ≡ b → cond a (Refused Fault.Backwards Whole) (cond b (Refused Fault.TooMany Whole) (Listed q)) ≡ Listed r
+    go : (a b : Bool) → leb most st.listed ≡ b → cond a (Refused Fault.Backwards None) (cond b (Refused Fault.TooMany None) (Listed q)) ≡ Listed r
         → (Listed q ≡ Listed r) × (st.listed < most)
     go true b p e = absurd (let z : ◌≡◌ {A = ℕ} 0 1 = cc in omega arith)
     go false true p e = absurd (let z : ◌≡◌ {A = ℕ} 0 1 = cc in omega arith)

@@ -1,4 +1,5 @@
 -- The loops over the lines: what holds at their heads, the ways out, and a line listed or passed over.
+use Rattle.std.specs.Prelude.{Option, Result, Some, None, Ok}
 use Prim.Native.Nat.{ℕ, suc, ◌+◌, ◌-◌, ◌≤◌, ◌<◌}
 use mathlib.Core.Path.{◌≡◌, refl, sym, ap, ◌∙◌}
 use mathlib.Core.List.{List, [], ◌∷◌, ◌++◌, append-nil}
@@ -12,30 +13,25 @@ use lib.Signed.{lt_z}
 use borrow.Author.Tests.{le-leb, lt-leb}
 use Rattle.octets.specs.Octets.{index_of}
 use Rattle.paper.specs.Line.{line_of}
-use Rattle.paper.specs.Columns.{column_in, in_line, whole_line}
+use Rattle.paper.specs.Columns.{column_in, in_line, whole_line, refused_at}
 use Rattle.paper.specs.Reading.{lines_of, start, checked, with_listed, with_passed, on_line, read_from, read_of}
 use Rattle.paper.specs.declared.Choice.{Choice}
 use Rattle.paper.specs.declared.Fault.{Fault}
 use Rattle.paper.specs.declared.Record.{Record}
 use Rattle.paper.specs.declared.Entry.{Entry}
-use Rattle.paper.specs.declared.Spot.{Spot}
-use Rattle.paper.specs.declared.Spot.TheVariants.{Whole}
 use Rattle.paper.specs.declared.Line.{Line}
 use Rattle.paper.specs.declared.Line.TheVariants.{Refused, Passed, Listed}
-use Rattle.paper.specs.declared.Stop.{Stop}
-use Rattle.paper.specs.declared.Stop.TheVariants.{End, At}
 use Rattle.reading.specs.Joined.{behind}
 use Rattle.reading.specs.Starts.{bytes_before, start_of}
 use Rattle.reading.specs.Places.{line_at, next_line}
 use Rattle.reading.proofs.Found.{ended_at, next_at, unended_here, line_here, next_here}
 use Rattle.reading.proofs.Tidy.{tidy_record}
 use Rattle.line.specs.Quick.{Here, QuickAt}
-use Rattle.line.specs.declared.Quick.{Quick}
-use Rattle.line.specs.declared.Quick.TheVariants.{Of}
 use Rattle.store.specs.Layout.{capacity, put_at}
 use Rattle.store.proofs.Laws.{stored_none, put_stored}
 use Rattle.trace.specs.Read.{ReadInto, answer_of}
 use Rattle.trace.specs.Going.{Going, state}
+use Rattle.paper.specs.declared.Refusal.{Refusal}
 
 pub going_start : (choice : Choice) (s store₀ : List ℕ) (most : ℕ) → most ≡ capacity store₀
     → Going choice s store₀ most store₀ start.last 0 0 0 1
@@ -65,7 +61,7 @@ module _ {choice : Choice} {s : List ℕ} {at : ℕ} {x : Line} where
       record { reads = is ∙ ap (line_of choice) (line_here s at end found.0); ends = next_here s at end found.0; near = omega (arith, found.1) }
 
   -- by a quick answer
-  pub answered : {next : ℕ} {q : Quick} → QuickAt choice s at q → q ≡ Of x next → Here choice s at x next
+  pub answered : {next : ℕ} {q : Option (Line × ℕ)} → QuickAt choice s at q → q ≡ Some (x, next) → Here choice s at x next
   unfolding QuickAt
   answered told e = rw e at told
 
@@ -78,7 +74,7 @@ module _ {choice : Choice} {s : List ℕ} {at : ℕ} {x : Line} where
   shorter here = omega (arith, further here, here.near)
 
 -- the column of what decides in it
-pub column_here : (s : List ℕ) (at end : ℕ) → end ≡ at + index_of 10 (drop at s) → (spot : Spot) {column : ℕ}
+pub column_here : (s : List ℕ) (at end : ℕ) → end ≡ at + index_of 10 (drop at s) → (spot : Option ℕ) {column : ℕ}
     → column ≡ column_in (take (end - at) (drop at s)) spot → column ≡ column_in (line_at s at) spot
 column_here s at end found spot is = rw (line_here s at end found) at is
 
@@ -99,7 +95,7 @@ module _ {choice : Choice} {s store₀ : List ℕ} {most : ℕ} {store : List �
       ap (start_of s) step ∙ going.starts 0 ∙ none
 
   -- where the reading from here on ends at once
-  stopped : (x : Stop) → read_from choice most (lines_of (drop at s)) n (state last listed passed) ≡ record { stop = x; entries = []; state = state last listed passed }
+  stopped : (x : Result Unit Refusal) → read_from choice most (lines_of (drop at s)) n (state last listed passed) ≡ record { stop = x; entries = []; state = state last listed passed }
       → ReadInto choice s store₀ (record { stop = x; listed = listed; passed = passed }) store
   unfolding answer_of
   stopped x e =
@@ -110,17 +106,17 @@ module _ {choice : Choice} {s store₀ : List ℕ} {most : ℕ} {store : List �
         holds = rw (← whole) (rw append-nil going.holds);
       }
 
-  pub at_end : length s ≤ at → ReadInto choice s store₀ (record { stop = End; listed = listed; passed = passed }) store
+  pub at_end : length s ≤ at → ReadInto choice s store₀ (record { stop = (Ok tt); listed = listed; passed = passed }) store
   unfolding read_from lines_of
-  at_end h = stopped End (rw (drop_of_length-le s h))
+  at_end h = stopped (Ok tt) (rw (drop_of_length-le s h))
 
   -- "no LF at its end (5)"
   pub at_unended : (end : ℕ) → at < length s → end ≡ at + index_of 10 (drop at s) → end ≡ length s
-      → ReadInto choice s store₀ (record { stop = At Fault.Form (in_line n (end - at + 1)); listed = listed; passed = passed }) store
+      → ReadInto choice s store₀ (record { stop = refused_at Fault.Form (in_line n (end - at + 1)); listed = listed; passed = passed }) store
   unfolding read_from
   at_unended end some_left found e =
       let long : length (take (end - at) (drop at s)) ≡ end - at = length-take-le (end - at) (drop at s) (simp length-drop (omega arith)) in
-      stopped (At Fault.Form (in_line n (end - at + 1))) (rw (unended_here s at end found some_left e, long, add-one))
+      stopped (refused_at Fault.Form (in_line n (end - at + 1))) (rw (unended_here s at end found some_left e, long, add-one))
 
   -- an ended line
   module _ {x : Line} {next : ℕ} (here : Here choice s at x next) where
@@ -141,13 +137,13 @@ module _ {choice : Choice} {s store₀ : List ℕ} {most : ℕ} {store : List �
         let step : n + 1 + k ≡ n + suc k = omega arith in
         rw (step, going.starts (suc k), ended_at s at near, here.ends) (omega (arith, next_at s at near))
 
-    refuses : (fault : Fault) (spot : Spot) → checked most (state last listed passed) x ≡ Refused fault spot
-        → ReadInto choice s store₀ (record { stop = At fault (in_line n (column_in (line_at s at) spot)); listed = listed; passed = passed }) store
+    refuses : (fault : Fault) (spot : Option ℕ) → checked most (state last listed passed) x ≡ Refused fault spot
+        → ReadInto choice s store₀ (record { stop = refused_at fault (in_line n (column_in (line_at s at) spot)); listed = listed; passed = passed }) store
     unfolding on_line
-    refuses fault spot e = stopped (At fault (in_line n (column_in (line_at s at) spot))) (onward ∙ rw e)
+    refuses fault spot e = stopped (refused_at fault (in_line n (column_in (line_at s at) spot))) (onward ∙ rw e)
 
-    pub line_refused : (fault : Fault) (spot : Spot) → x ≡ Refused fault spot → {column : ℕ} → column ≡ column_in (line_at s at) spot
-        → ReadInto choice s store₀ (record { stop = At fault (in_line n column); listed = listed; passed = passed }) store
+    pub line_refused : (fault : Fault) (spot : Option ℕ) → x ≡ Refused fault spot → {column : ℕ} → column ≡ column_in (line_at s at) spot
+        → ReadInto choice s store₀ (record { stop = refused_at fault (in_line n column); listed = listed; passed = passed }) store
     unfolding checked
     line_refused fault spot e q = rw q (refuses fault spot (rw e))
 
@@ -170,17 +166,17 @@ module _ {choice : Choice} {s store₀ : List ℕ} {most : ℕ} {store : List �
 
     module _ (r : Record) (lists : x ≡ Listed r) (early : Bool) (tells : early ≡ lt_z r.time (get_or last r.processor (pos 0))) where
       pub line_backwards : early ≡ true
-          → ReadInto choice s store₀ (record { stop = At Fault.Backwards (whole_line n); listed = listed; passed = passed }) store
+          → ReadInto choice s store₀ (record { stop = refused_at Fault.Backwards (whole_line n); listed = listed; passed = passed }) store
       unfolding checked column_in
-      line_backwards e = refuses Fault.Backwards Whole (rw (lists, sym tells ∙ e))
+      line_backwards e = refuses Fault.Backwards None (rw (lists, sym tells ∙ e))
 
       module _ (not-early : early ≡ false) where
         in_order : lt_z r.time (get_or last r.processor (pos 0)) ≡ false
         in_order = sym tells ∙ not-early
 
-        pub line_too_many : most ≤ listed → ReadInto choice s store₀ (record { stop = At Fault.TooMany (whole_line n); listed = listed; passed = passed }) store
+        pub line_too_many : most ≤ listed → ReadInto choice s store₀ (record { stop = refused_at Fault.TooMany (whole_line n); listed = listed; passed = passed }) store
         unfolding checked column_in
-        line_too_many h = refuses Fault.TooMany Whole (rw (lists, in_order, le-leb most listed h))
+        line_too_many h = refuses Fault.TooMany None (rw (lists, in_order, le-leb most listed h))
 
         pub line_listed : listed < most → (store₁ : List ℕ) → store₁ ≡ put_at store listed at (record { line = n; body = r }) → length store₁ ≡ length store → (u : ℤ) → u ≡ r.time
             → Going choice s store₀ most store₁ (set last r.processor u) (listed + 1) passed next (n + 1)

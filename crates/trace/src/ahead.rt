@@ -4,7 +4,6 @@ ghost use Rattle.paper.specs.Reading.{start};
 ghost use Rattle.store.specs.Layout.{capacity};
 ghost use Rattle.trace.specs.Going.{Going};
 
-use line::Quick;
 use paper::{Choice, Line};
 
 // How far the reading came: the lines listed and passed over, and the place and the number of the line that is next.
@@ -32,12 +31,12 @@ pub(crate) fn lines(
     let mut n: usize = 1;
     while at < s.len() {
         let here = Way {
-            listed: listed,
-            passed: passed,
-            at: at,
+            listed,
+            passed,
+            at,
             line: n,
         };
-        let Quick::Of(line, next) = line::quick_line(choice, s, at) else {
+        let Some((line, next)) = line::quick_line(choice, s, at) else {
             return here;
         };
         match line {
@@ -50,7 +49,7 @@ pub(crate) fn lines(
             Line::Listed(r) => {
                 let p = r.processor;
                 let time = r.time;
-                if signed::earlier(time, last[p]) {
+                if time < last[p] {
                     return here;
                 }
                 if most <= listed {
@@ -65,9 +64,9 @@ pub(crate) fn lines(
         }
     }
     Way {
-        listed: listed,
-        passed: passed,
-        at: at,
+        listed,
+        passed,
+        at,
         line: n,
     }
 }

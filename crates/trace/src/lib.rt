@@ -7,12 +7,12 @@ mod ahead;
 
 ghost use Rattle.trace.specs.Read.{ReadInto};
 
-use paper::{Choice, Fault, Line, Site, Stop};
+use paper::{Choice, Fault, Line, Refusal, Site};
 
 // Where the reading ended, and how many lines were listed and passed over up to there.
 #[derive(Clone, Copy)]
 pub struct Read {
-    pub stop: Stop,
+    pub stop: Result<(), Refusal>,
     pub listed: usize,
     pub passed: usize,
 }
@@ -36,9 +36,12 @@ pub fn read_trace(choice: Choice, s: &[u8], store: &mut [u32]) -> Read
                 column: end - at + 1,
             };
             return Read {
-                stop: Stop::At(Fault::Form, site),
-                listed: listed,
-                passed: passed,
+                stop: Err(Refusal {
+                    fault: Fault::Form,
+                    site,
+                }),
+                listed,
+                passed,
             };
         }
         let next = end + 1;
@@ -50,9 +53,9 @@ pub fn read_trace(choice: Choice, s: &[u8], store: &mut [u32]) -> Read
                     column: line::column(&s[at..end], spot),
                 };
                 return Read {
-                    stop: Stop::At(fault, site),
-                    listed: listed,
-                    passed: passed,
+                    stop: Err(Refusal { fault, site }),
+                    listed,
+                    passed,
                 };
             }
             Line::Passed => {
@@ -63,18 +66,26 @@ pub fn read_trace(choice: Choice, s: &[u8], store: &mut [u32]) -> Read
             Line::Listed(r) => {
                 let p = r.processor;
                 let time = r.time;
-                if signed::earlier(time, last[p]) {
+                if time < last[p] {
+                    let site = Site { line: n, column: 0 };
                     return Read {
-                        stop: Stop::At(Fault::Backwards, Site { line: n, column: 0 }),
-                        listed: listed,
-                        passed: passed,
+                        stop: Err(Refusal {
+                            fault: Fault::Backwards,
+                            site,
+                        }),
+                        listed,
+                        passed,
                     };
                 }
                 if most <= listed {
+                    let site = Site { line: n, column: 0 };
                     return Read {
-                        stop: Stop::At(Fault::TooMany, Site { line: n, column: 0 }),
-                        listed: listed,
-                        passed: passed,
+                        stop: Err(Refusal {
+                            fault: Fault::TooMany,
+                            site,
+                        }),
+                        listed,
+                        passed,
                     };
                 }
                 store::put(store, listed, n, at, r);
@@ -86,8 +97,8 @@ pub fn read_trace(choice: Choice, s: &[u8], store: &mut [u32]) -> Read
         }
     }
     Read {
-        stop: Stop::End,
-        listed: listed,
-        passed: passed,
+        stop: Ok(()),
+        listed,
+        passed,
     }
 }

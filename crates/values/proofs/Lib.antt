@@ -3,3 +3,4 @@ pub mod Values
 pub mod Paired
 pub mod Either
 pub mod Outcome
+pub mod Exits

@@ -5,59 +5,54 @@ ghost use Rattle.paper.specs.Line.{quoted_for, told_for, pairs_of, pairs_for, as
 ghost use Rattle.field.specs.Cursor.{rest_at, read_as};
 ghost use Rattle.values.specs.Few.{Few};
 
-use field::{Form, Got};
-use paper::{Data, Values};
+use field::Form;
+use paper::Data;
 
 // "The descriptor is the quoted text "%d%lf" for times, or "%d%d" for the other two"
 pub fn quoted_form(kind: i64) -> Form
     ensures { read_as result ≡ quoted_for kind }
 {
-    if signed::same(kind, -101) {
-        return Form::TimesQuoted;
+    if kind == -101 {
+        Form::TimesQuoted
+    } else {
+        Form::NumbersQuoted
     }
-    Form::NumbersQuoted
 }
 
 // A time, or a whole number.
 pub fn told_form(kind: i64) -> Form
     ensures { read_as result ≡ told_for kind }
 {
-    if signed::same(kind, -101) {
-        return Form::Time;
+    if kind == -101 {
+        Form::Time
+    } else {
+        Form::Whole
     }
-    Form::Whole
 }
 
 // n pairs and no more.
-fn pairs(l: &[u8], at: usize, n: usize, form: Form) -> Values
+fn pairs(l: &[u8], at: usize, n: usize, form: Form) -> Result<Data, usize>
     requires { n ≤ 16 }
     ensures { result ≡ as_pairs (pairs_of (read_as form) 7 n (rest_at l.now at)) }
 {
     let mut p = at;
-    let mut i = 0;
-    while i < n {
-        let Got::Value(_, second) = field::value_at(l, p, Form::Whole) else {
-            return Values::Bad(7 + 2 * i);
-        };
-        let Got::Value(_, next) = field::value_at(l, second, form) else {
-            return Values::Bad(8 + 2 * i);
-        };
+    for i in 0..n {
+        let (_, second) = field::value_at(l, p, Form::Whole).ok_or(7 + 2 * i)?;
+        let (_, next) = field::value_at(l, second, form).ok_or(8 + 2 * i)?;
         p = next;
-        i += 1;
     }
     if l.len() < p {
-        return Values::Good(Data::Others);
+        Ok(Data::Others)
+    } else {
+        Err(7 + 2 * n)
     }
-    Values::Bad(7 + 2 * i)
 }
 
 // The descriptor, and the pairs behind it.
-pub(crate) fn read(l: &[u8], at: usize, kind: i64, n: usize) -> Values
+pub(crate) fn read(l: &[u8], at: usize, kind: i64, n: usize) -> Result<Data, usize>
     requires { Few n }
     ensures { result ≡ as_pairs (pairs_for kind n (rest_at l.now at)) }
 {
-    let Got::Value(_, next) = field::value_at(l, at, quoted_form(kind)) else {
-        return Values::Bad(6);
-    };
+    let (_, next) = field::value_at(l, at, quoted_form(kind)).ok_or(6usize)?;
     pairs(l, next, n, told_form(kind))
 }

@@ -1,10 +1,10 @@
 -- The gaps that are kept, of the records of a store: how they are computed, that the table of the records before gives those of the paper, and
 -- that none is wider than any between two times of a trace.
+use Rattle.std.specs.Prelude.{Option, Some, None}
 use Prim.Native.Nat.{ℕ, ◌+◌, ◌*◌, ◌/◌, ◌%◌, ◌≤◌, ◌<◌, ◌^◌}
 use native.Mathlib.Omega.{arith}
 use native.Mathlib.Nat.{mul-le-mul, mul-le-mul_right, mul-add, mul_left_comm, div-add-mod}
 use mathlib.Core.Path.{◌≡◌, refl, sym, ap, ◌∙◌}
-use mathlib.Core.Option.{Option, none, some}
 use mathlib.Core.List.{List}
 use mathlib.Core.Bool.{true}
 use lib.IntN.{ℤ, pos, negsuc}
@@ -96,10 +96,10 @@ module _ (share : ℕ) (es : List Entry) where
   apart_narrow (negsuc m) (negsuc n) h k = omega arith
 
   module _ (few : share ≤ 1000) (held : (k : ℕ) → k < length es → InRange (entry_at es k).body.time) where
-    from_narrow : (i : ℕ) → i < length es → (o : Option ℕ) → ((j : ℕ) → o ≡ some j → j < length es) → gap_from share es i o ≤ widest
+    from_narrow : (i : ℕ) → i < length es → (o : Option ℕ) → ((j : ℕ) → o ≡ Some j → j < length es) → gap_from share es i o ≤ widest
     unfolding gap_from
-    from_narrow i l none within = omega arith
-    from_narrow i l (some j) within =
+    from_narrow i l None within = omega arith
+    from_narrow i l (Some j) within =
         let whole = rw (gap_whole (entry_at es j).body.time (entry_at es i).body.time) at (gap_more share 1000 (entry_at es j).body.time (entry_at es i).body.time few) in
         omega (arith, whole, apart_narrow (entry_at es j).body.time (entry_at es i).body.time (held j (within j refl)) (held i l))
 
@@ -119,5 +119,5 @@ unfolding gap_from
 nothing_kept es i = go (last_on es (processor_at es i) i)
   where
     go : (o : Option ℕ) → gap_from 0 es i o ≡ 0
-    go none = refl
-    go (some j) = gap_none _ _
+    go None = refl
+    go (Some j) = gap_none _ _

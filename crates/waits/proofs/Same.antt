@@ -1,9 +1,8 @@
 -- The engine, given the tables of a trace's records, answers what the paper says of the records.
+use Rattle.std.specs.Prelude.{Option, Some, None, unwrap_or}
 use Prim.Native.Nat.{ℕ, ◌<◌}
 use native.Mathlib.Omega.{arith}
 use mathlib.Core.Path.{◌≡◌, refl}
-use mathlib.Core.Option
-use mathlib.Core.Option.{Option, none, some}
 use mathlib.Core.List.{List}
 use borrow.Author.Tests.{lt-ltb, le-ltb}
 use lib.ListN.{length, get_or}
@@ -25,18 +24,18 @@ pub record Given (share : ℕ) (table : List ℕ) (es : List Entry) (originals :
   pub are_originals : originals ≡ originals_of es
   pub are_befores : before ≡ befores_of es
   pub are_gaps : (i : ℕ) → i < length es → get_or gap i 0 ≡ gap_at share es i
-  pub are_sends : send ≡ listed (length es) (λ i. Option.get_or (send_of es i) (length es))
+  pub are_sends : send ≡ listed (length es) (λ i. unwrap_or (send_of es i) (length es))
   pub are_latencies : latency ≡ latencies_of table es
 
 -- places that were written down are read again
 module _ (n : ℕ) where
-  pub place_back : (o : Option ℕ) → ((j : ℕ) → o ≡ some j → j < n) → place n (Option.get_or o n) ≡ o
-  place_back none within = rw (le-ltb n n (omega arith))
-  place_back (some j) within = rw (lt-ltb j n (within j refl))
+  pub place_back : (o : Option ℕ) → ((j : ℕ) → o ≡ Some j → j < n) → place n (unwrap_or o n) ≡ o
+  place_back None within = rw (le-ltb n n (omega arith))
+  place_back (Some j) within = rw (lt-ltb j n (within j refl))
 
-  pub places_back : (f : ℕ → Option ℕ) (i : ℕ) → i < n → ((j : ℕ) → f i ≡ some j → j < n)
-      → place n (get_or (listed n (λ k. Option.get_or (f k) n)) i 0) ≡ f i
-  places_back f i i< within = rw (listed_at n (λ k. Option.get_or (f k) n) i 0 i<) (place_back (f i) within)
+  pub places_back : (f : ℕ → Option ℕ) (i : ℕ) → i < n → ((j : ℕ) → f i ≡ Some j → j < n)
+      → place n (get_or (listed n (λ k. unwrap_or (f k) n)) i 0) ≡ f i
+  places_back f i i< within = rw (listed_at n (λ k. unwrap_or (f k) n) i 0 i<) (place_back (f i) within)
 
 module _ (share : ℕ) (table : List ℕ) (es : List Entry) where
   size : length (originals_of es) ≡ length es

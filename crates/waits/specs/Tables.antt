@@ -1,7 +1,6 @@
 -- The tables that the engine of the clock condition takes: of each entry its original, the place of the record before it, the gap to keep
 -- from there, and the latency from its send. A place that is the number of entries is no place.
-use Rattle.std.specs.Prelude.{ℕ, cond, List, length, get_or, ℤ, ltb, leb}
-use Rattle.std.proofs.Math.Option
+use Rattle.std.specs.Prelude.{ℕ, cond, List, length, get_or, ℤ, ltb, leb, unwrap_or}
 use Rattle.paper.specs.Clock.{listed}
 use Rattle.paper.specs.Matching.{entry_at, last_on, gap_from, latency_for}
 use Rattle.paper.specs.declared.Entry.{Entry}
@@ -15,7 +14,7 @@ original_at es i = (entry_at es i).body.time
 
 -- the place of the record before it on its processor
 abbrev pub before_at : List Entry → ℕ → ℕ
-before_at es i = Option.get_or (last_on es (entry_at es i).body.processor i) (length es)
+before_at es i = unwrap_or (last_on es (entry_at es i).body.processor i) (length es)
 
 -- how much later than that one it is at least
 abbrev pub gap_at : ℕ → List Entry → ℕ → ℕ

@@ -17,23 +17,18 @@ use paper::Role;
 pub fn number_at(table: &[u32], at: usize) -> u32
     ensures { result ≡ get_or table.now at 0 }
 {
-    if at < table.len() {
-        return table[at];
-    }
-    0
+    table.get(at).copied().unwrap_or(0)
 }
 
 fn latency_at(store: &[u32], table: &[u32], i: usize) -> u32
     ensures { result ≡ latency_of table.now (entry_from store.now i) }
 {
-    let role = store::role_at(store, i);
-    match role {
+    match store::role_at(store, i) {
         Role::Neither => 0,
         Role::Send(_) => 0,
         Role::Receive(m) => {
-            let sender = m.peer;
             let receiver = store::processor_at(store, i);
-            number_at(table, 64 * sender + receiver)
+            number_at(table, 64 * m.peer + receiver)
         }
     }
 }
@@ -43,7 +38,7 @@ fn thousandths(share: u32, n: u64) -> u64
     requires { share ≤ 1000 }
     ensures { result ≡ share * n / 1000 }
 {
-    let share = share as u64;
+    let share = u64::from(share);
     share * (n / 1000) + share * (n % 1000) / 1000
 }
 
@@ -51,7 +46,7 @@ fn thousandths(share: u32, n: u64) -> u64
 fn gap_of(share: u32, before: i64, own: i64) -> u64
     ensures { share ≤ 1000 → result ≡ gap_of share before own }
 {
-    if 1000 < share {
+    if share > 1000 {
         return 0;
     }
     thousandths(share, signed::apart(before, own))
@@ -62,7 +57,7 @@ pub fn gap_at(store: &[u32], share: u32, n: usize, i: usize, j: u32) -> u64
     ensures { share ≤ 1000 → i < n → result ≡ gap_from share (entries_in store.now n) i (place n j) }
 {
     let at = j as usize;
-    if n <= at {
+    if at >= n {
         return 0;
     }
     gap_of(share, store::time_at(store, at), store::time_at(store, i))
@@ -74,10 +69,8 @@ pub fn gap_at(store: &[u32], share: u32, n: usize, i: usize, j: u32) -> u64
 pub fn originals_into(store: &[u32], out: &mut [i64])
     ensures { out.new ≡ originals_of (entries_in store.now (length out.old)) }
 {
-    let mut i: usize = 0;
-    while i < out.len() {
-        out[i] = store::time_at(store, i);
-        i += 1;
+    for (i, original) in out.iter_mut().enumerate() {
+        *original = store::time_at(store, i);
     }
 }
 
@@ -93,18 +86,15 @@ pub fn for_each(n: u32) -> [u32; 64]
 pub fn befores_into(store: &[u32], out: &mut [u32])
     ensures { out.new ≡ befores_into store.now out.old }
 {
-    if store::TOO_MANY <= out.len() {
+    if out.len() >= store::TOO_MANY {
         return;
     }
-    let none = out.len() as u32;
     // of each processor the place of its last record so far
-    let mut last = for_each(none);
-    let mut i: usize = 0;
-    while i < out.len() {
+    let mut last = for_each(out.len() as u32);
+    for (i, before) in out.iter_mut().enumerate() {
         let p = store::processor_at(store, i);
-        out[i] = last[p];
+        *before = last[p];
         last[p] = i as u32;
-        i += 1;
     }
 }
 
@@ -113,10 +103,8 @@ fn keep_share(store: &[u32], share: u32, before: &[u32], out: &mut [u64])
     ensures { out.new ≡ gaps_by share (entries_in store.now (length out.old)) before.now }
 {
     let n = out.len();
-    let mut i: usize = 0;
-    while i < out.len() {
-        out[i] = gap_at(store, share, n, i, number_at(before, i));
-        i += 1;
+    for (i, gap) in out.iter_mut().enumerate() {
+        *gap = gap_at(store, share, n, i, number_at(before, i));
     }
 }
 
@@ -133,9 +121,7 @@ pub fn gaps_into(store: &[u32], share: u32, before: &[u32], out: &mut [u64])
 pub fn latencies_into(store: &[u32], table: &[u32], out: &mut [u32])
     ensures { out.new ≡ latencies_of table.now (entries_in store.now (length out.old)) }
 {
-    let mut i: usize = 0;
-    while i < out.len() {
-        out[i] = latency_at(store, table, i);
-        i += 1;
+    for (i, latency) in out.iter_mut().enumerate() {
+        *latency = latency_at(store, table, i);
     }
 }

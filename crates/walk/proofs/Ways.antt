@@ -115,10 +115,10 @@ module _ (first second ranks : List ℕ) (place : ℕ) where
 
   module _ (list : List ℕ) {count : ℕ} (is : count ≡ count_at ranks place) {answer : Filled} where
     -- no steps are known
-    pub chain_none : count ≡ 0 → answer ≡ filling_in 0 (length list) → filling answer list ≡ on_list (way_at first second ranks place) list
+    pub chain_none : count ≡ 0 → answer ≡ filling_in count (length list) → filling answer list ≡ on_list (way_at first second ranks place) list
     chain_none none e =
         let no_items : way_at first second ranks place ≡ [] = empty _ (sym (many is) ∙ none) in
-        list_long (way_at first second ranks place) list (sym none ∙ many is) e (omega arith) (sym (ap (λ (l : List ℕ). l ++ list) no_items))
+        list_long (way_at first second ranks place) list (many is) e (omega arith) (rw none (sym (ap (λ (l : List ℕ). l ++ list) no_items)))
 
     -- "then a list too short is 16"
     pub chain_short : length list < count → answer ≡ filling_in count (length list) → filling answer list ≡ on_list (way_at first second ranks place) list

@@ -8,45 +8,23 @@ ghost use Rattle.walk.specs.Way.{rank_at, next, way, count_at, way_at};
 
 use paper::Filled;
 
+// The steps of either kind, and how many each record has.
+#[derive(Clone, Copy)]
+struct Steps<'a> {
+    first: &'a [u32],
+    second: &'a [u32],
+    ranks: &'a [u32],
+}
+
 // How many steps a record has; as many as there are records, which none has, where there is no such record.
 fn rank_at(ranks: &[u32], i: usize) -> usize
     ensures { result ≡ rank_at ranks.now i }
 {
     if i < ranks.len() {
-        return ranks[i] as usize;
+        ranks[i] as usize
+    } else {
+        ranks.len()
     }
-    ranks.len()
-}
-
-// The record that a step leads to from which so many are left.
-fn next_of(first: &[u32], second: &[u32], ranks: &[u32], i: usize, left: usize) -> u32
-    ensures { result ≡ next first.now second.now ranks.now left i }
-{
-    let processor = waits::number_at(first, i);
-    let send = waits::number_at(second, i);
-    let rank = rank_at(ranks, processor as usize);
-    steps::onward(processor, send, rank, left)
-}
-
-// The record and the walk from it, with so many steps left, into the list from a place on.
-fn walk(
-    first: &[u32],
-    second: &[u32],
-    ranks: &[u32],
-    i: u32,
-    left: usize,
-    at: usize,
-    list: &mut [u64],
-)
-    requires { at + left < length list.old }
-    ensures { list.new ≡ take at list.old ++ (way first.now second.now ranks.now left i ++ drop (at + left + 1) list.old) }
-{
-    list[at] = i as u64;
-    if left == 0 {
-        return;
-    }
-    let to = next_of(first, second, ranks, i as usize, left - 1);
-    walk(first, second, ranks, to, left - 1, at + 1, list);
 }
 
 // How many records the chain has, the first one counted; 0 where no steps are known.
@@ -54,10 +32,32 @@ fn count_at(ranks: &[u32], i: usize) -> usize
     ensures { result ≡ count_at ranks.now i }
 {
     let rank = rank_at(ranks, i);
-    if rank < ranks.len() {
-        return rank + 1;
+    if rank < ranks.len() { rank + 1 } else { 0 }
+}
+
+impl Steps<'_> {
+    // The record that a step leads to from which so many are left.
+    fn next_of(self, i: usize, left: usize) -> u32
+        ensures { result ≡ next self.entry.first.now self.entry.second.now self.entry.ranks.now left i }
+    {
+        let processor = waits::number_at(self.first, i);
+        let send = waits::number_at(self.second, i);
+        let rank = rank_at(self.ranks, processor as usize);
+        steps::onward(processor, send, rank, left)
     }
-    0
+
+    // The record and the walk from it, with so many steps left, into the list from a place on.
+    fn walk(self, i: u32, left: usize, at: usize, list: &mut [u64])
+        requires { at + left < length list.old }
+        ensures { list.new ≡ take at list.old ++ (way self.entry.first.now self.entry.second.now self.entry.ranks.now left i ++ drop (at + left + 1) list.old) }
+    {
+        list[at] = u64::from(i);
+        if left == 0 {
+            return;
+        }
+        let to = self.next_of(i as usize, left - 1);
+        self.walk(to, left - 1, at + 1, list);
+    }
 }
 
 // The chain of the record at a place, by its steps of either kind and how many each record has, into the list; 16 where that is too short.
@@ -66,12 +66,13 @@ pub fn fill(first: &[u32], second: &[u32], ranks: &[u32], place: u32, list: &mut
 {
     let count = count_at(ranks, place as usize);
     let places = list.len();
-    if count == 0 {
-        return answer::filled_list(0, places);
+    if count != 0 && count <= places {
+        let steps = Steps {
+            first,
+            second,
+            ranks,
+        };
+        steps.walk(place, count - 1, 0, list);
     }
-    if places < count {
-        return answer::filled_list(count, places);
-    }
-    walk(first, second, ranks, place, count - 1, 0, list);
     answer::filled_list(count, places)
 }

@@ -1,9 +1,9 @@
 -- What is patched is the paper's written trace, where the reading came to its end with the records of the store.
+use Rattle.std.specs.Prelude.{Some, Ok}
 use Prim.Native.Nat.{ℕ, suc, ◌+◌, ◌-◌, ◌≤◌, ◌<◌}
 use mathlib.Core.Path.{◌≡◌, refl, sym, ap, ◌∙◌}
 use mathlib.Core.List.{List, [], ◌∷◌, ◌++◌, append_assoc}
 use mathlib.Core.Bool.{Bool, true, false, cond}
-use mathlib.Core.Option.{some}
 use native.Mathlib.Nat.{add-zero, zero-add}
 use native.Mathlib.Omega.{arith}
 use lib.ListN.{length, take, drop, get_or, length-append}
@@ -17,7 +17,6 @@ use Rattle.paper.specs.Reading.{Lines, lines_of, State, read_of}
 use Rattle.paper.specs.Written.{with_stamp, write_line, written_from}
 use Rattle.paper.specs.declared.Choice.{Choice}
 use Rattle.paper.specs.declared.Entry.{Entry}
-use Rattle.paper.specs.declared.Stop.TheVariants.{End}
 use Rattle.shown.specs.Writes.{shown_length}
 use Rattle.signed.proofs.Equal.{eq_z_true}
 use Rattle.forms.proofs.Back.{back_and_there}
@@ -66,7 +65,7 @@ module _ (l more stamp : List ℕ) where
 
 -- the reading of s came to its end, its entries are in the store with their lines' starts, and each has a time with a form
 pub record Fits (choice : Choice) (most : ℕ) (s : List ℕ) (store : List ℕ) (times : List ℤ) : Type 0 where
-  pub whole : (read_of choice most s).stop ≡ End
+  pub whole : (read_of choice most s).stop ≡ Ok tt
   pub entries : entries_in store (length times) ≡ (read_of choice most s).entries
   pub starts : (i : ℕ) → i < length times → start_from store i ≡ start_of s (entry_at (read_of choice most s).entries i).line
   pub forms : (i : ℕ) → i < length times → nat_abs (get_or times i (pos 0)) ≤ 999999999999999
@@ -88,8 +87,8 @@ module _ (s : List ℕ) (store : List ℕ) where
 
   module _ (run l more : List ℕ) (moves : List Move) (w : List ℕ) where
     -- a line that is kept
-    line_kept : patched s store ((run ++ (l ++ (10 ∷ []))) ++ more) moves ≡ some ((run ++ (l ++ (10 ∷ []))) ++ w)
-        → patched s store (run ++ (l ++ (10 ∷ more))) moves ≡ some (run ++ (l ++ (10 ∷ w)))
+    line_kept : patched s store ((run ++ (l ++ (10 ∷ []))) ++ more) moves ≡ Some ((run ++ (l ++ (10 ∷ []))) ++ w)
+        → patched s store (run ++ (l ++ (10 ∷ more))) moves ≡ Some (run ++ (l ++ (10 ∷ w)))
     line_kept e = simp append_assoc at e
 
     -- a line with another time
@@ -129,16 +128,16 @@ module _ (s : List ℕ) (store : List ℕ) where
       after_stamp : drop (stamp_length store k) (stamp_on s store k) ≡ back l more
       after_stamp = rw (on, long) (drop_at (time_shown t₀) (back l more) (length (time_shown t₀)) refl)
 
-      line_moved : patched s store (back l more) moves ≡ some (back l w)
-          → patched s store rest (record { place = k; time = t } ∷ moves) ≡ some (run ++ (with_stamp (time_shown t) l ++ (10 ∷ w)))
+      line_moved : patched s store (back l more) moves ≡ Some (back l w)
+          → patched s store rest (record { place = k; time = t } ∷ moves) ≡ Some (run ++ (with_stamp (time_shown t) l ++ (10 ∷ w)))
       line_moved e =
           stamp_replaced s store rest k t moves placed
-          ∙ rw (before_stamp, after_stamp, e, behind_some, stamped l w (time_shown t)) (ap some (simp append_assoc))
+          ∙ rw (before_stamp, after_stamp, e, behind_some, stamped l w (time_shown t)) (ap Some (simp append_assoc))
 
       -- a listed line, whether its time moved or not
-      line_listed : ((run₁ : List ℕ) → patched s store (run₁ ++ more) moves ≡ some (run₁ ++ w))
+      line_listed : ((run₁ : List ℕ) → patched s store (run₁ ++ more) moves ≡ Some (run₁ ++ w))
           → (b : Bool) → eq_z (entry_from store k).body.time t ≡ b
-          → patched s store rest (cond b moves (record { place = k; time = t } ∷ moves)) ≡ some (run ++ (with_stamp (time_shown t) l ++ (10 ∷ w)))
+          → patched s store rest (cond b moves (record { place = k; time = t } ∷ moves)) ≡ Some (run ++ (with_stamp (time_shown t) l ++ (10 ∷ w)))
       unfolding back
       line_listed later true e =
           let same : t₀ ≡ t = sym time ∙ eq_z_true _ _ e in
@@ -150,7 +149,7 @@ module _ (s : List ℕ) (store : List ℕ) where
   faithful : {choice : Choice} {most : ℕ} {x : Lines} {n : ℕ} {st st₁ : State} {es : List Entry} → Reads choice most x n st es st₁ → 1 ≤ n
       → lines_of (drop (start_of s n) s) ≡ x → (k : ℕ) → Kept k es → (times : List ℤ) → length times ≡ length es
       → ((i : ℕ) → i < length times → nat_abs (get_or times i (pos 0)) ≤ 999999999999999) → (run : List ℕ)
-      → patched s store (run ++ drop (start_of s n) s) (moves_from store k times) ≡ some (run ++ written_from choice x times)
+      → patched s store (run ++ drop (start_of s n) s) (moves_from store k times) ≡ Some (run ++ written_from choice x times)
   unfolding moves_from written_from write_line patched
   faithful {n = n} ends h is k kept [] e forms run = rw (no_bytes (drop (start_of s n) s) is)
   faithful ends h is k kept (t ∷ times) e forms run = absurd (omega arith)
@@ -180,6 +179,6 @@ module _ {choice : Choice} {most : ℕ} {s : List ℕ} {store : List ℕ} {times
       let b : j < length times = rw many h in
       rw zero-add (sym (entry_in store (length times) j b) ∙ ap (λ (es : List Entry). entry_at es j) fits.entries, fits.starts j b)
 
-  pub bytes_written : bytes_for s store times ≡ some (written_from choice (lines_of s) times)
+  pub bytes_written : bytes_for s store times ≡ Some (written_from choice (lines_of s) times)
   unfolding bytes_for start_of bytes_before
   bytes_written = faithful s store (along choice most s fits.whole) (omega arith) refl 0 all_kept times many fits.forms []

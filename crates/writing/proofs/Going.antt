@@ -1,9 +1,9 @@
 -- The loops over the moved records: what both passes know at their heads, and a stamp more.
+use Rattle.std.specs.Prelude.{Some, None}
 use Prim.Native.Nat.{ℕ, ◌+◌, ◌-◌, ◌≤◌, ◌<◌}
 use mathlib.Core.Path.{◌≡◌, sym, ◌∙◌}
 use mathlib.Core.List.{List, [], ◌∷◌, ◌++◌}
 use mathlib.Core.Bool.{Bool, true, false}
-use mathlib.Core.Option.{none, some}
 use native.Mathlib.Omega.{arith}
 use lib.ListN.{length, take, drop, get_or, length-append, length-drop, drop_of_length-le}
 use lib.Seq.{drop-drop, length-take-le}
@@ -38,7 +38,7 @@ going_start s next =
 
 module _ {s : List ℕ} {store : List ℕ} {times : List ℤ} {from k : ℕ} (going : Going s store times from k) where
   -- no moved record left
-  pub all_told : length times ≤ k → bytes_for s store times ≡ some (going.before ++ drop from s)
+  pub all_told : length times ≤ k → bytes_for s store times ≡ Some (going.before ++ drop from s)
   unfolding patched moves_from
   all_told h = sym going.whole ∙ rw (drop_of_length-le times h) (behind_some going.before (drop from s))
 
@@ -57,7 +57,7 @@ module _ {s : List ℕ} {store : List ℕ} {times : List ℤ} {from k : ℕ} (go
     next_move : behind going.before (patched s store (drop from s) (record { place = k; time = t } ∷ moves_at store times (k + 1))) ≡ bytes_for s store times
     next_move = rw (is, ← going.stops.moved left) going.whole
 
-    pub misplaced : placed ≡ false → bytes_for s store times ≡ none
+    pub misplaced : placed ≡ false → bytes_for s store times ≡ None
     misplaced e =
         sym next_move
         ∙ rw (stamp_misplaced s store (drop from s) k t (moves_at store times (k + 1)) (same_test ∙ e)) (behind_none going.before)

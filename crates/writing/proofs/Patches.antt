@@ -1,9 +1,9 @@
 -- One stamp replaced.
+use Rattle.std.specs.Prelude.{Option, Some, None}
 use Prim.Native.Nat.{ℕ, ◌-◌, ◌≤◌, ◌<◌}
 use mathlib.Core.Path.{◌≡◌, refl, sym, ap}
 use mathlib.Core.List.{List, [], ◌∷◌, ◌++◌, append_assoc}
 use mathlib.Core.Bool.{Bool, true, false, cond, ◌&&◌}
-use mathlib.Core.Option.{Option, none, some}
 use native.Mathlib.Omega.{arith}
 use borrow.Author.Tests.{le-leb, lt-ltb, leb-true, ltb-true}
 use lib.ListN.{length, take, drop, length-append}
@@ -18,28 +18,28 @@ use Rattle.writing.specs.Patched.{Move, behind, patched}
 
 -- ---- bytes in front
 
-pub behind_none : (a : List ℕ) → behind a none ≡ none
+pub behind_none : (a : List ℕ) → behind a None ≡ None
 unfolding behind
 behind_none a = refl
 
-pub behind_some : (a b : List ℕ) → behind a (some b) ≡ some (a ++ b)
+pub behind_some : (a b : List ℕ) → behind a (Some b) ≡ Some (a ++ b)
 unfolding behind
 behind_some a b = refl
 
 pub behind_nothing : (o : Option (List ℕ)) → behind [] o ≡ o
 unfolding behind
-behind_nothing none = refl
-behind_nothing (some b) = refl
+behind_nothing None = refl
+behind_nothing (Some b) = refl
 
 pub behind_both : (a b : List ℕ) (o : Option (List ℕ)) → behind a (behind b o) ≡ behind (a ++ b) o
 unfolding behind
-behind_both a b none = refl
-behind_both a b (some c) = ap some (sym (append_assoc a b c))
+behind_both a b None = refl
+behind_both a b (Some c) = ap Some (sym (append_assoc a b c))
 
-pub front_short : (a : List ℕ) (o : Option (List ℕ)) (w : List ℕ) → behind a o ≡ some w → length a ≤ length w
+pub front_short : (a : List ℕ) (o : Option (List ℕ)) (w : List ℕ) → behind a o ≡ Some w → length a ≤ length w
 unfolding behind
-front_short a none w e = never (cc)
-front_short a (some b) w e = let q : a ++ b ≡ w = cc in rw (← q) (simp length-append (omega arith))
+front_short a None w e = never (cc)
+front_short a (Some b) w e = let q : a ++ b ≡ w = cc in rw (← q) (simp length-append (omega arith))
 
 -- ---- a time that has a form
 
@@ -98,6 +98,6 @@ module _ (s : List ℕ) (store : List ℕ) (rest : List ℕ) (k : ℕ) (t : ℤ)
   unfolding patched
   stamp_replaced h = rw h
 
-  pub stamp_misplaced : placed ≡ false → patched s store rest (record { place = k; time = t } ∷ moves) ≡ none
+  pub stamp_misplaced : placed ≡ false → patched s store rest (record { place = k; time = t } ∷ moves) ≡ None
   unfolding patched
   stamp_misplaced h = rw h

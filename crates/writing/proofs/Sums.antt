@@ -1,4 +1,5 @@
 -- The loop that sums: the written trace is as much longer than the trace as the new stamps go beyond the old ones.
+use Rattle.std.specs.Prelude.{Some, None}
 use Prim.Native.Nat.{ℕ, ◌+◌, ◌-◌, ◌*◌, ◌≤◌, ◌<◌}
 use mathlib.Core.Path.{◌≡◌, refl, sym, ◌∙◌}
 use mathlib.Core.List.{List}
@@ -12,7 +13,6 @@ use Rattle.stamps.specs.Stamps.{in_place, StampOf}
 use Rattle.stamps.specs.declared.Stamp.{Stamp}
 use Rattle.writing.specs.Patched.{bytes_for}
 use Rattle.writing.specs.Inner.{Next, Changed, changed, unfit}
-use Rattle.writing.specs.declared.measure.Change.TheVariants.{Of, Unfit}
 use Rattle.writing.proofs.Going.{Going, Sound, going_start, all_told, misplaced, sound, word_length, onward}
 
 pub record Summing (s : List ℕ) (store : List ℕ) (times : List ℤ) (from gained lost k : ℕ) : Type 0 where
@@ -26,7 +26,7 @@ unfolding going_start
 summing_start s next = record { going = going_start s next; sum = refl; less = omega arith; more = omega arith }
 
 module _ {s : List ℕ} {store : List ℕ} {times : List ℤ} {from gained lost k : ℕ} (summing : Summing s store times from gained lost k) where
-  pub summed : length times ≤ k → Changed s (bytes_for s store times) (Of gained lost)
+  pub summed : length times ≤ k → Changed s (bytes_for s store times) (Some (gained, lost))
   summed h =
       changed {gained = gained} {lost = lost} (all_told summing.going h)
       (simp (length-append, length-drop) (omega (arith, summing.sum, summing.going.inside)))
@@ -38,7 +38,7 @@ module _ {s : List ℕ} {store : List ℕ} {times : List ℤ} {from gained lost 
     test : {b : Bool} → ok ≡ b → in_place (length s - from) (length s - r.at) r.long (shown_length t) ≡ b
     test e = rw takes at (sym told ∙ e)
 
-    pub not_placed : not ok ≡ true → Changed s (bytes_for s store times) Unfit
+    pub not_placed : not ok ≡ true → Changed s (bytes_for s store times) None
     not_placed e = unfit (misplaced summing.going left found is (test (not-true ok e)))
 
     module _ (e : not ok ≡ false) where

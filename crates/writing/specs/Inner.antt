@@ -1,10 +1,7 @@
 -- What the inner functions tell each other.
-use Rattle.std.specs.Prelude.{ℕ, ◌+◌, ◌≤◌, ◌<◌, ◌≡◌, List, ◌∷◌, length, drop, get_or, ℤ, pos}
-use Rattle.std.proofs.Math.Option.{Option, none, some}
+use Rattle.std.specs.Prelude.{ℕ, ◌+◌, ◌≤◌, ◌<◌, ◌≡◌, List, ◌∷◌, length, drop, get_or, ℤ, pos, Option, Some, None}
 use Rattle.std.proofs.lemmas.List.Edits.{sets}
 use Rattle.writing.specs.Patched.{Move, moves_from}
-use Rattle.writing.specs.declared.measure.Change.{Change}
-use Rattle.writing.specs.declared.measure.Change.TheVariants.{Of, Unfit}
 
 -- ---- the moved records
 
@@ -25,16 +22,16 @@ pub record Next (store : List ℕ) (times : List ℤ) (k r : ℕ) : Type 0 where
 -- ---- lengths
 
 -- by how much the written trace is longer and shorter than s
-pub data Changed (s : List ℕ) (bytes : Option (List ℕ)) : Change → Type 0 where
-  changed : {b : List ℕ} {gained lost : ℕ} → bytes ≡ some b → length b + lost ≡ length s + gained → lost ≤ length s → Changed s bytes (Of gained lost)
-  unfit : bytes ≡ none → Changed s bytes Unfit
+pub data Changed (s : List ℕ) (bytes : Option (List ℕ)) : Option (ℕ × ℕ) → Type 0 where
+  changed : {b : List ℕ} {gained lost : ℕ} → bytes ≡ Some b → length b + lost ≡ length s + gained → lost ≤ length s → Changed s bytes (Some (gained, lost))
+  unfit : bytes ≡ None → Changed s bytes None
 
 -- ---- the room
 
 -- bytes that it holds
 pub record Held (bytes : Option (List ℕ)) (most : ℕ) : Type 0 where
   pub word : List ℕ
-  pub is : bytes ≡ some word
+  pub is : bytes ≡ Some word
   pub fits : length word ≤ most
 
 -- a word put at `at`, and the place behind it

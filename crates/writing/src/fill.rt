@@ -13,6 +13,7 @@ pub(crate) fn fill(s: &[u8], store: &[u32], times: &[i64], room: &mut [u8])
     let mut from: usize = 0;
     let mut to: usize = 0;
     let mut k = moves::next_moved(store, times, 0);
+    // no counting: from each moved record to the next
     while k < times.len() {
         let stamp = stamps::stamp_of(s, store, k);
         let at = stamp.at;

@@ -10,25 +10,24 @@ mod put;
 
 ghost use Rattle.writing.specs.Outcome.{WrittenInto};
 
-// What a writing comes to: the length of the written trace, or why the room was left as it was. Unfit: the store or the times are
-// not those of this trace, as a timestamp is not where the store says, or a time is beyond 999,999,999,999,999 on either side of zero.
+// Why the room was left as it was. Unfit: the store or the times are not those of this trace, as a timestamp is not where the store says, or
+// a time is beyond 999,999,999,999,999 on either side of zero.
 #[derive(Clone, Copy)]
-pub enum Written {
-    Length(usize),
+pub enum Unwritten {
     NoRoom,
     Unfit,
 }
 
 // The trace s with the times of the records in the store, which stand in the order of the file.
-pub fn write_trace(s: &[u8], store: &[u32], times: &[i64], room: &mut [u8]) -> Written
+pub fn write_trace(
+    s: &[u8],
+    store: &[u32],
+    times: &[i64],
+    room: &mut [u8],
+) -> Result<usize, Unwritten>
     ensures { WrittenInto s.now store.now times.now room.old result room.new }
 {
-    match measure::measure(s, store, times, room.len()) {
-        Written::Length(n) => {
-            fill::fill(s, store, times, room);
-            Written::Length(n)
-        }
-        Written::NoRoom => Written::NoRoom,
-        Written::Unfit => Written::Unfit,
-    }
+    let n = measure::measure(s, store, times, room.len())?;
+    fill::fill(s, store, times, room);
+    Ok(n)
 }

@@ -7,13 +7,11 @@ pub(crate) fn next_moved(store: &[u32], times: &[i64], k: usize) -> usize
     requires { k ≤ length times.now }
     ensures { Next store.now times.now k result }
 {
-    let mut i = k;
-    while i < times.len() {
+    for i in k..times.len() {
         let old = store::time_at(store, i);
-        if !signed::same(old, times[i]) {
+        if old != times[i] {
             return i;
         }
-        i += 1;
     }
-    i
+    times.len()
 }

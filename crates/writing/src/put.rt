@@ -4,13 +4,11 @@ ghost use Rattle.std.proofs.lemmas.List.Edits.{sets};
 ghost use Rattle.paper.specs.Forms.{time_shown};
 ghost use Rattle.writing.specs.Inner.{Stored};
 
-use shown::Put;
-
 pub(crate) fn put(room: &mut [u8], at: usize, word: &[u8])
     requires { at + length word.now ≤ length room.old }
     ensures { room.new ≡ sets room.old at word.now }
 {
-    octets::copy(word, &mut room[at..]);
+    room[at..at + word.len()].copy_from_slice(word);
 }
 
 // A word and a time, answering the place behind them. The time has a form and there is room, so that it is always written.
@@ -19,8 +17,5 @@ pub(crate) fn put_run(room: &mut [u8], at: usize, word: &[u8], time: i64) -> usi
     ensures { Stored room.old at (word.now ++ time_shown time) result room.new }
 {
     put(room, at, word);
-    let Put::At(end) = shown::write_time(room, at + word.len(), time) else {
-        return at;
-    };
-    end
+    shown::write_time(room, at + word.len(), time).unwrap_or(at)
 }

@@ -1,9 +1,7 @@
--- Field `left` from the cursor on is field k of the line.
+-- Behind so many fields, what is left of k counts from the cursor on.
+use Prim.Native.Nat.{◌-◌}
 use Rattle.begins.proofs.Spaces.{Left}
 use Rattle.begins.proofs.begin_of.Given as goal
 
-abbrev pub invariant-loop-left : goal.invariant-loop-left
-invariant-loop-left l = Left l.l l.k l.left l.at
-
-abbrev pub decreases-loop-left : goal.decreases-loop-left
-decreases-loop-left l = l.left
+abbrev pub invariant-loop : goal.invariant-loop
+invariant-loop l = Left l.l l.k (l.k - l.counter) l.at

@@ -1,17 +1,14 @@
--- the sends are chained, then placed, and the links cleared.
-use mathlib.Core.Path.{refl}
-use Rattle.chains.proofs.Place.{place_begins}
+-- The sends are chained, then placed, and the links cleared.
 use Rattle.chains.proofs.Outcomes.{links_differ, too_many_lem, not_found, all_found}
-use borrow.Author.Rules.{rules}
 use Rattle.chains.proofs.find_sends.Goals as goal
+use Rattle.chains.proofs.find_sends.Goals.{then-link-sends-via-then-link-sends, then-link-sends-via-else-link-sends+then-sends-ge-TOO_MANY}
 
 pub returns-then-link-sends : goal.returns-then-link-sends
-returns-then-link-sends c = not_found _ _ _ (links_differ _ _ c.if-link-sends.true)
-
-pub returns-then-sends-ge-TOO_MANY : goal.returns-then-sends-ge-TOO_MANY
-returns-then-sends-ge-TOO_MANY c = not_found _ _ _ (too_many_lem _ _ c.if-link-sends.false c.if-sends-ge-TOO_MANY.true)
+returns-then-link-sends c =
+    elim c.then-link-sends.branch [
+      | then-link-sends-via-then-link-sends w ↦ not_found _ _ _ (links_differ _ _ w.if-link-sends.true)
+      | then-link-sends-via-else-link-sends+then-sends-ge-TOO_MANY w ↦ not_found _ _ _ (too_many_lem _ _ w.if-link-sends.false w.if-sends-ge-TOO_MANY.true)
+    ]
 
 pub returns : goal.returns
-returns c = let placed = c in
-    let few = placed in
-    all_found _ _ _ few.if-link-sends.false few.if-sends-ge-TOO_MANY.false placed.place_sends.ensures c.clear.ensures
+returns c = all_found _ _ _ c.if-link-sends.false c.if-sends-ge-TOO_MANY.false c.place_sends.ensures c.clear.ensures

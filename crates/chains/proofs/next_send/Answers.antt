@@ -1,11 +1,5 @@
-use Prim.Native.Nat.{◌-◌}
 use mathlib.Core.Path.{sym, ◌∙◌}
-use native.Mathlib.Omega.{arith}
-use borrow.Author.Rules.{rules}
-use lib.ListN.{length}
-use Rattle.store.proofs.Widths.{widens}
-use Rattle.chains.proofs.Walks.{comes_to, comes_out}
-use Rattle.chains.proofs.Search.{Forwards, forward_begins, forward_less, forward_turns}
+use Rattle.chains.proofs.Search.{forward_turns}
 use Rattle.chains.proofs.next_send.Goals as goal
 
 pub loop-s-preserved : goal.loop-s-preserved

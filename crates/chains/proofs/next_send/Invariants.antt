@@ -1,12 +1,7 @@
 -- The invariant: no send under the key was passed, and s is on the chain.
 use Prim.Native.Nat.{◌-◌}
-use mathlib.Core.Path.{sym, ◌∙◌}
-use native.Mathlib.Omega.{arith}
-use borrow.Author.Rules.{rules}
 use lib.ListN.{length}
-use Rattle.store.proofs.Widths.{widens}
-use Rattle.chains.proofs.Walks.{comes_to, comes_out}
-use Rattle.chains.proofs.Search.{Forwards, forward_begins, forward_less, forward_turns}
+use Rattle.chains.proofs.Search.{Forwards}
 use Rattle.chains.proofs.next_send.Given as goal
 
 abbrev pub invariant-loop-s : goal.invariant-loop-s

@@ -1,9 +1,5 @@
 use mathlib.Core.Path.{sym, ◌∙◌}
-use native.Mathlib.Omega.{arith}
-use borrow.Author.Rules.{rules}
-use Rattle.store.proofs.Widths.{widens}
-use Rattle.chains.proofs.Walks.{comes_back_to, comes_back_out}
-use Rattle.chains.proofs.Search.{Backwards, backward_begins, backward_less, backward_turns}
+use Rattle.chains.proofs.Search.{backward_less, backward_turns}
 use Rattle.chains.proofs.prior_receive.Goals as goal
 
 pub loop-p-smaller : goal.loop-p-smaller

@@ -1,6 +1,4 @@
-use Prim.Native.Nat.{◌-◌}
-use borrow.Author.Rules.{rules}
-use Rattle.common.proofs.Tables.{Going, going_none, going_more, going_all}
+use Rattle.common.proofs.Tables.{going_none, going_more, going_all}
 use Rattle.common.proofs.held.Goals as goal
 
 pub loop-i-init : goal.loop-i-init

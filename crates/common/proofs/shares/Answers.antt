@@ -1,6 +1,4 @@
-use Prim.Native.Nat.{◌-◌}
-use borrow.Author.Rules.{rules}
-use Rattle.common.proofs.Tables.{Telling, telling_all, shares_here, telling_more, shares_none}
+use Rattle.common.proofs.Tables.{shares_here, telling_more, shares_none}
 use Rattle.common.proofs.shares.Goals as goal
 
 pub returns-then-other-p : goal.returns-then-other-p

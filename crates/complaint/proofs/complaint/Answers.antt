@@ -1,19 +1,13 @@
--- The line that the plan asks for.
+-- Nothing is said where nothing is bad or missing.
 use mathlib.Core.Path.{refl}
-use Rattle.paper.specs.Text.{bytes_of}
 use Rattle.flags.specs.Spans.{plan_in}
 use Rattle.complaint.specs.Complaint.{complaint_of}
-use Rattle.complaint.proofs.Shows.{name_shown, complains, says_nothing}
+use Rattle.complaint.proofs.Shows.{says_nothing}
 use Rattle.complaint.proofs.complaint.Goals as goal
 
-pub returns-in-Bad : goal.returns-in-Bad
-unfolding plan_in complaint_of bytes_of
-returns-in-Bad c = complains (rw c.in-Bad.is refl) c.put_line.ensures
+pub returns-in-Err : goal.returns-in-Err
+returns-in-Err c = rw c.in-Err.is c.lack_named.ensures
 
-pub returns-in-Missing : goal.returns-in-Missing
-unfolding plan_in complaint_of bytes_of
-returns-in-Missing c = complains (rw (c.in-Missing.is, c.place_of-place.ensures, name_shown)) c.put_line-in-Missing.ensures
-
-pub returns-in-Judge : goal.returns-in-Judge
+pub returns-in-Ok : goal.returns-in-Ok
 unfolding plan_in complaint_of
-returns-in-Judge c = says_nothing _ (rw c.in-Judge.is refl)
+returns-in-Ok c = says_nothing _ (rw c.in-Ok.is refl)

@@ -1,14 +1,11 @@
+use mathlib.Core.Path.{sym, ◌∙◌}
 use Rattle.ending.specs.Ending.{answer_for}
+use Rattle.ending.proofs.Copying.{unwritten}
 use Rattle.ending.proofs.answer_for.Goals as goal
 
-pub returns-in-Length : goal.returns-in-Length
+pub returns-in-Ok : goal.returns-in-Ok
 unfolding answer_for
-returns-in-Length c = rw c.in-Length.is c.accepted.ensures
+returns-in-Ok c = rw c.in-Ok.is c.accepted.ensures
 
-pub returns-in-NoRoom : goal.returns-in-NoRoom
-unfolding answer_for
-returns-in-NoRoom c = rw c.in-NoRoom.is c.refused_nowhere.ensures
-
-pub returns-in-Unfit : goal.returns-in-Unfit
-unfolding answer_for
-returns-in-Unfit c = rw c.in-Unfit.is c.refused_nowhere-in-Unfit.ensures
+pub returns-in-Err-NoRoom : goal.returns-in-Err-NoRoom
+returns-in-Err-NoRoom c = rw c.in-Err-NoRoom.is (c.refused_nowhere.ensures ∙ sym (unwritten c.args.counts c.in-Err-NoRoom.field-0))

@@ -1,11 +1,13 @@
 use Rattle.ending.proofs.Copying.{kept, copied_in, unplaced}
 use Rattle.ending.proofs.keep_times.Goals as goal
-
-pub returns-then-number-ne0 : goal.returns-then-number-ne0
-returns-then-number-ne0 c = kept _ _ _ c.if-number-ne0.true
+use Rattle.ending.proofs.keep_times.Goals.{else-number-eq0-via-then-number-eq0+else-new-times, else-number-eq0-via-else-number-eq0}
 
 pub returns-then-new-times : goal.returns-then-new-times
-returns-then-new-times c = copied_in _ _ _ c.if-number-ne0.false c.if-new-times.true c.copy_times.ensures
+returns-then-new-times c = copied_in _ _ _ c.if-number-eq0.true c.if-new-times.true c.copy_times.ensures
 
-pub returns-else-new-times : goal.returns-else-new-times
-returns-else-new-times c = unplaced _ _ _ c.if-number-ne0.false c.if-new-times.false
+pub returns-else-number-eq0 : goal.returns-else-number-eq0
+returns-else-number-eq0 c =
+    elim c.else-number-eq0.branch [
+      | else-number-eq0-via-then-number-eq0+else-new-times w ↦ unplaced _ _ _ w.if-number-eq0.true w.if-new-times.false
+      | else-number-eq0-via-else-number-eq0 w ↦ kept _ _ _ w.if-number-eq0.false
+    ]

@@ -7,6 +7,6 @@ pub returns-then-lent-eq0 : goal.returns-then-lent-eq0
 unfolding gaps_for
 returns-then-lent-eq0 c = rw (eq-eqb _ _ c.if-lent-eq0.true)
 
-pub returns : goal.returns
+pub returns-else-lent-eq0 : goal.returns-else-lent-eq0
 unfolding gaps_for
-returns c = rw (ne_eqb _ _ c.if-lent-eq0.false)
+returns-else-lent-eq0 c = rw (ne_eqb _ _ c.if-lent-eq0.false)

@@ -1,15 +1,12 @@
-use native.Mathlib.Omega.{arith}
-use mathlib.Core.Path.{sym, ◌∙◌}
+use mathlib.Core.Path.{◌∙◌}
+use lib.Dec.{leb}
 use borrow.Author.Rules.{rules}
-use Rattle.forms.proofs.Bounded.{bounded_on, bounded_not, bounded_end}
+use Rattle.std.proofs.Common.{tests}
+use Rattle.std.proofs.lemmas.Iterator.{YieldsList-from_slice}
+use Rattle.std.proofs.lemmas.Iterator.Search.{all_from_yields_List}
 use Rattle.engine.specs.Promise.{widest}
+use Rattle.engine.proofs.Lengths.{all_narrow}
 use Rattle.engine.proofs.none_wider.Goals as goal
 
-pub returns-then-gap-i-gt-WIDEST : goal.returns-then-gap-i-gt-WIDEST
-returns-then-gap-i-gt-WIDEST c = bounded_not widest _ _ c.loop-i-test.true (omega (arith, c.if-gap-i-gt-WIDEST.true)) ∙ sym c.loop-i.invariant.1
-
-pub loop-i-preserved : goal.loop-i-preserved
-loop-i-preserved c = (search rules, c.loop-i.invariant.1 ∙ bounded_on widest _ _ c.loop-i-test.true (omega (arith, c.if-gap-i-gt-WIDEST.false)))
-
 pub returns : goal.returns
-returns c = bounded_end _ _ _ c.loop-i-test.false ∙ sym c.loop-i.invariant.1
+returns c = all_from_yields_List (λ x. leb x widest) _ _ _ c.all.ensures.ran (YieldsList-from_slice c.args.gap.now cc) (λ x b q k. search (rules, tests)) ∙ all_narrow c.args.gap.now

@@ -5,20 +5,19 @@ use Rattle.field.proofs.Cursors.{got, got_near, not_got, without}
 use Rattle.field.proofs.Counts.{no_count, count_outside, count_good}
 use Rattle.field.proofs.count_at.Goals as goal
 
-pub returns-in_default : goal.returns-in_default
+pub returns-in_err-v : goal.returns-in_err-v
 unfolding counted_of read_as
-returns-in_default c = without _ (no_count _ (not_got _ _ _ c.value_at.ensures c.in_default.is))
+returns-in_err-v c = rw c.from_residual.ensures (without _ (no_count _ (not_got _ _ _ c.value_at.ensures c.in_err-v.was)))
 
-pub returns-in_default-up_to : goal.returns-in_default-up_to
+pub returns-in_err-n : goal.returns-in_err-n
 unfolding counted_of read_as
-returns-in_default-up_to c =
-    without _ (count_outside _ _ (search rules) (got _ _ _ c.value_at.ensures _ _ c.in-Value.is) (sym c.up_to.ensures ∙ c.in_default-up_to.is))
+returns-in_err-n c = rw c.from_residual-in_err-n.ensures
+    (without _ (count_outside _ _ (search rules) (got _ _ _ c.value_at.ensures _ _ c.in_ok-v.was) (sym c.up_to.ensures ∙ c.in_err-n.was)))
 
 pub returns : goal.returns
 unfolding counted_of read_as
 returns c = let read = c.value_at.ensures in
-    let v = c.in-Value.is in
     record {
-      is = count_good _ _ _ (search rules) (got _ _ _ read _ _ v) (sym c.up_to.ensures ∙ c.in-Of.is);
-      near = got_near _ _ _ read _ _ v;
+      is = count_good _ _ _ (search rules) (got _ _ _ read _ _ c.in_ok-v.was) (sym c.up_to.ensures ∙ c.in_ok-n.was);
+      near = got_near _ _ _ read _ _ c.in_ok-v.was;
     }

@@ -1,8 +1,6 @@
-use Rattle.field.proofs.Texts.{is_text, other_text}
+use mathlib.Core.Path.{◌∙◌}
+use Rattle.field.proofs.Texts.{text_told}
 use Rattle.field.proofs.read_text.Goals as goal
 
-pub returns-then-is_same : goal.returns-then-is_same
-returns-then-is_same c = is_text _ _ c.is_same.ensures c.if-is_same.true
-
 pub returns : goal.returns
-returns c = other_text _ _ c.is_same.ensures c.if-is_same.false
+returns c = c.then_some.ensures ∙ text_told _ _ _ c.is_same.ensures

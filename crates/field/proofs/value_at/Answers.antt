@@ -8,16 +8,16 @@ pub returns-then-l-at : goal.returns-then-l-at
 unfolding got_of
 returns-then-l-at c = without _ (none_here _ _ _ c.if-l-at.true)
 
-pub returns-in-Good : goal.returns-in-Good
+pub returns-in_err-v : goal.returns-in_err-v
 unfolding got_of
-returns-in-Good c = record {
+returns-in_err-v c = rw c.from_residual.ensures (without _ (bad_here _ _ _ c.if-l-at.false c.find-end.ensures.place
+    _ (sym c.read_as.ensures ∙ c.in_err-v.was)))
+
+pub returns : goal.returns
+unfolding got_of
+returns c = record {
   is =
       good_here _ _ _ c.if-l-at.false c.find-end.ensures.place
-      _ (search rules) (sym c.read_as.ensures ∙ c.in-Good.is);
+      _ (search rules) (sym c.read_as.ensures ∙ c.in_ok-v.was);
   near = search rules;
 }
-
-pub returns-in-Bad : goal.returns-in-Bad
-unfolding got_of
-returns-in-Bad c = without _ (bad_here _ _ _ c.if-l-at.false c.find-end.ensures.place
-    _ (sym c.read_as.ensures ∙ c.in-Bad.is))

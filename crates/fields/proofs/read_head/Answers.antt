@@ -1,10 +1,12 @@
-use borrow.Author.Rules.{rules}
-use Rattle.field.proofs.Cursors.{instead}
+use mathlib.Core.Path.{◌∙◌}
+use Rattle.field.proofs.Cursors.{without}
+use Rattle.fields.specs.Cursor.{begun_of}
 use Rattle.fields.proofs.Heads.{good_six, bad_six}
 use Rattle.fields.proofs.read_head.Goals as goal
 
-pub returns-in-Six : goal.returns-in-Six
-returns-in-Six c = good_six _ _ c.six.ensures _ _ c.in-Six.is
+pub returns-in-Ok : goal.returns-in-Ok
+returns-in-Ok c = good_six _ _ c.six.ensures c.in-Ok.begun.0 c.in-Ok.begun.1 c.in-Ok.is
 
-pub returns-in-Bad : goal.returns-in-Bad
-returns-in-Bad c = instead c.bad_field.ensures (bad_six _ _ c.six.ensures _ _ c.in-Bad.is)
+pub returns-in-Err : goal.returns-in-Err
+unfolding begun_of
+returns-in-Err c = without _ (c.bad_field.ensures ∙ bad_six _ _ c.six.ensures _ _ c.in-Err.is)

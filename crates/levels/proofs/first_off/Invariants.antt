@@ -7,6 +7,3 @@ use Rattle.levels.proofs.first_off.Given as goal
 
 abbrev pub invariant-loop-p : goal.invariant-loop-p
 invariant-loop-p l = (l.p ≤ 64) × (levels_from l.asked (entries_in l.store l.listed) l.p (64 - l.p) ≡ levels_from l.asked (entries_in l.store l.listed) 0 64)
-
-abbrev pub decreases-loop-p : goal.decreases-loop-p
-decreases-loop-p l = 64 - l.p

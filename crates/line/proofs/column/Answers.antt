@@ -1,10 +1,10 @@
 use Rattle.paper.specs.Columns.{column_in}
 use Rattle.line.proofs.column.Goals as goal
 
-pub returns-in-Field : goal.returns-in-Field
+pub returns-in-Some : goal.returns-in-Some
 unfolding column_in
-returns-in-Field c = rw c.in-Field.is c.column.ensures
+returns-in-Some c = rw c.in-Some.is c.column.ensures
 
-pub returns-in-Whole : goal.returns-in-Whole
+pub returns-in-None : goal.returns-in-None
 unfolding column_in
-returns-in-Whole c = rw c.in-Whole.is
+returns-in-None c = rw c.in-None.is

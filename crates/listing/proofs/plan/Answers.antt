@@ -9,17 +9,12 @@ use Rattle.listing.proofs.plan.Goals as goal
 
 pub conclude-requires : goal.conclude-requires
 unfolding most judged most_lent Sought
-conclude-requires c = let seek = c in
-    let arrays = seek in
-    let a = arrays.args in
-    let says = seek.seek-reached.ensures arrays.empty-store.ensures arrays.places-sends.ensures arrays.blanks-new.ensures in
-    with_sends (query a.trace.now a.latencies.now a.asked) _ _ _ _ says
+conclude-requires c =
+    let says = c.seek-reached.ensures c.empty-store.ensures c.places-sends.ensures c.blanks-new.ensures in
+    with_sends (query c.args.trace.now c.args.latencies.now c.args.asked) _ _ _ _ says
 
 pub returns : goal.returns
 unfolding most judged most_lent Sought ConcludedBy
-returns c = let back = c in
-    let seek = back in
-    let arrays = seek in
-    let a = arrays.args in
-    let says = seek.seek-reached.ensures arrays.empty-store.ensures arrays.places-sends.ensures arrays.blanks-new.ensures in
-    c.conclude.ensures (query a.trace.now a.latencies.now a.asked) _ _ (omega (arith, back.sends-2-1.given, c.conclude-arg-1.given)) says
+returns c =
+    let says = c.seek-reached.ensures c.empty-store.ensures c.places-sends.ensures c.blanks-new.ensures in
+    c.conclude.ensures (query c.args.trace.now c.args.latencies.now c.args.asked) _ _ (omega arith) says

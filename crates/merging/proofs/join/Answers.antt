@@ -1,21 +1,19 @@
-use Rattle.merging.proofs.Calls.{join_unheard, join_unfit, join_counted, join_apart}
+use Rattle.std.proofs.lemmas.Result.{err_from_is_err_and}
+use Rattle.merging.proofs.Calls.{left, join_unheard, join_unfit, join_counted, join_apart}
 use Rattle.merging.proofs.join.Goals as goal
 
 pub put-requires : goal.put-requires
-put-requires c = let c₄ = c in
-    let c₈ = c₄ in
-    join_counted _ _ c₈.choice_of.ensures _ _ c₈.args.room.now _ c₄.in-Of.is c₄.read.ensures _ _ c.in-Apart.is
+put-requires c = join_counted _ _ c.choice_of.ensures _ _ c.args.room.now _ c.in_ok-choice.ensures.ok_part c.read.ensures _ _ c.in_ok-a.was
 
-pub returns-in-Nothing : goal.returns-in-Nothing
-returns-in-Nothing c = join_unheard _ _ c.choice_of.ensures _ _ _ c.in-Nothing.is c.nowhere.ensures
+pub returns-in_err-choice : goal.returns-in_err-choice
+returns-in_err-choice c =
+    rw (left _ c.from_residual.ensures.1 c.in_err-choice.ensures.ok_part c.in_err-choice.ensures.value)
+    (join_unheard _ _ c.choice_of.ensures _ _ _ c.in_err-choice.ensures.ok_part c.nowhere.ensures)
 
-pub returns-in-Unfit : goal.returns-in-Unfit
-returns-in-Unfit c = let c₃ = c in
-    let c₇ = c₃ in
-    join_unfit _ _ c₇.choice_of.ensures _ _ _ _ c₃.in-Of.is c₃.read.ensures _ _ _ c.in-Unfit.is
+pub returns-in_err-a : goal.returns-in_err-a
+returns-in_err-a c =
+    let out = err_from_is_err_and c.from_residual-in_err-a.result c.from_residual-in_err-a.ensures.1 in
+    rw (out.1, out.2) (join_unfit _ _ c.choice_of.ensures _ _ _ _ c.in_ok-choice.ensures.ok_part c.read.ensures _ c.in_err-a.was)
 
-pub returns-in-Apart : goal.returns-in-Apart
-returns-in-Apart c = let c₅ = c in
-    let c₇ = c₅ in
-    let c₁₁ = c₇ in
-    join_apart _ _ c₁₁.choice_of.ensures _ _ _ _ c₇.in-Of.is c₇.read.ensures _ _ c₅.in-Apart.is c.put.ensures
+pub returns : goal.returns
+returns c = join_apart _ _ c.choice_of.ensures _ _ _ _ c.in_ok-choice.ensures.ok_part c.read.ensures _ _ c.in_ok-a.was c.put.ensures

@@ -1,28 +1,22 @@
-use mathlib.Core.Path.{refl, ap}
+-- The counts, record by record.
+use mathlib.Core.Path.{◌≡◌}
 use native.Mathlib.Omega.{arith}
-use Rattle.paper.specs.Matching.{is_send, is_receive}
-use Rattle.matching.proofs.Count.{count}
-use Rattle.message.proofs.Counts.{one_low, count_on, all_counted, none_over}
+use Rattle.message.proofs.Counts.{none_counted, one_received, one_sent, one_passed, all_counted}
 use Rattle.message.proofs.counted.Goals as goal
+use Rattle.message.proofs.counted.Goals.{in-Receive, in-Send, in-Neither}
 
 pub loop-i-init : goal.loop-i-init
-unfolding count
-loop-i-init c = (omega arith, omega arith, omega arith, refl, refl)
+loop-i-init c = none_counted c.args.store.now
 
 pub loop-i-preserved : goal.loop-i-preserved
-loop-i-preserved c = let l = c.loop-i in
-    let r = c.role_at-role in (
-      omega arith,
-      omega (arith, c.receives_one-received.ensures, one_low (is_receive r.result)),
-      omega (arith, c.sends_one-sent.ensures, one_low (is_send r.result)),
-      count_on _ l.i _ _ l.invariant.3 c.receives_one-received.ensures (ap is_receive r.ensures),
-      count_on _ l.i _ _ l.invariant.4 c.sends_one-sent.ensures (ap is_send r.ensures),
-    )
-
-pub returns-then-sent-received : goal.returns-then-sent-received
-returns-then-sent-received c = let l = c.loop-i in
-    none_over _ _ l.i _ _ l.invariant.3 l.invariant.4 (omega arith) (omega arith)
+loop-i-preserved c =
+    elim c.match-role_at.branch [
+      | in-Receive w ↦ rw (w.received-is, w.sent-is) (one_received c.loop-i.invariant c.role_at.ensures _ w.in-Receive.is)
+      | in-Send w ↦ rw (w.received-is, w.sent-is) (one_sent c.loop-i.invariant c.role_at.ensures _ w.in-Send.is)
+      | in-Neither w ↦ rw (w.received-is, w.sent-is) (one_passed c.loop-i.invariant c.role_at.ensures w.in-Neither.is)
+    ]
 
 pub returns : goal.returns
-returns c = let l = c.loop-i in
-    all_counted _ _ l.i _ _ l.invariant.3 l.invariant.4 (omega arith)
+returns c =
+    let all : c.loop-i.i ≡ c.args.n = omega arith in
+    rw c.saturating_sub.ensures (all_counted _ c.args.n (rw all at c.loop-i.invariant))

@@ -1,5 +1,5 @@
+use Rattle.std.proofs.lemmas.Result.{err_from_is_err_and}
 use mathlib.Core.Path.{refl, sym, ◌∙◌}
-use native.Mathlib.Omega.{arith}
 use Rattle.paper.specs.Matching.{matched_of}
 use Rattle.matching.proofs.Calls.{matched_end}
 use Rattle.store.proofs.Laws.{length_entries}
@@ -8,17 +8,16 @@ use Rattle.message.proofs.first_call.Goals as goal
 
 pub loop-i-init : goal.loop-i-init
 unfolding matched_of
-loop-i-init c = (omega arith, refl)
+loop-i-init c = refl
 
-pub returns-in-At : goal.returns-in-At
-returns-in-At c = let l = c.loop-i in
-    sym (stops _ l.i (rw length_entries c.loop-i-test.true) c.call_at-stop.ensures c.in-At.is) ∙ l.invariant.1
+pub returns-in_err-call_at : goal.returns-in_err-call_at
+returns-in_err-call_at c =
+    let (e, is, same) = err_from_is_err_and c.from_residual.result c.from_residual.ensures.1 in
+    rw (is, same) (stops _ c.loop-i.i (rw length_entries c.loop-i-test.true) c.call_at.ensures c.in_err-call_at.was ∙ c.loop-i.invariant)
 
 pub loop-i-preserved : goal.loop-i-preserved
-loop-i-preserved c = let l = c.loop-i in
-    let quiet = goes_on_lem _ l.i (rw length_entries c.loop-i-test.true) c.call_at-stop.ensures c.in_default.is in
-    (omega arith, quiet ∙ l.invariant.1)
+loop-i-preserved c =
+    goes_on_lem _ c.loop-i.i (rw length_entries c.loop-i-test.true) c.call_at.ensures c.in_ok-call_at.was ∙ c.loop-i.invariant
 
 pub returns : goal.returns
-returns c = let l = c.loop-i in
-    sym (matched_end _ l.i (rw length_entries c.loop-i-test.false)) ∙ l.invariant.1
+returns c = sym (matched_end _ c.loop-i.i (rw length_entries c.loop-i-test.false)) ∙ c.loop-i.invariant

@@ -1,13 +1,10 @@
 -- The loop's invariant: what is left of s, read behind the value so far, gives the whole answer; and that value, before another digit,
 -- is no more than a tenth of 2 ^ 63.
-use Prim.Native.Nat.{◌-◌, ◌≤◌}
+use Prim.Native.Nat.{◌≤◌}
 use mathlib.Core.Path.{◌≡◌}
-use lib.ListN.{length, drop}
+use lib.ListN.{drop}
 use Rattle.paper.specs.Forms.{digits_from}
 use Rattle.numeral.proofs.read_digits.Given as goal
 
-abbrev pub invariant-loop-i : goal.invariant-loop-i
-invariant-loop-i l = (l.i ≤ length l.s) × (l.value ≤ 9223372036854775809) × (digits_from 0 l.s ≡ digits_from l.value (drop l.i l.s))
-
-abbrev pub decreases-loop-i : goal.decreases-loop-i
-decreases-loop-i l = length l.s - l.i
+abbrev pub invariant-loop-b : goal.invariant-loop-b
+invariant-loop-b l = (l.value ≤ 9223372036854775809) × (digits_from 0 l.s ≡ digits_from l.value (drop l.b-index l.s))

@@ -1,34 +1,38 @@
 -- The code fits 64 bits.
-use Prim.Native.Nat.{ℕ, ◌≤◌}
+use Rattle.std.specs.Prelude.{Option, Some, None}
+use Prim.Native.Nat.{ℕ, ◌≤◌, ◌-◌}
 use mathlib.Core.Path.{◌≡◌, ap, sym, ◌∙◌}
 use mathlib.Core.Bool.{true}
 use native.Mathlib.Omega.{arith}
 use borrow.Author.Rules.{rules}
 use Rattle.paper.specs.Forms.{signed}
-use Rattle.forms.specs.declared.Size.{Size}
-use Rattle.forms.specs.declared.Size.TheVariants.{Of}
-use Rattle.forms.specs.Sizes.{number, AtMost}
+use Rattle.forms.specs.Sizes.{AtMost}
 use Rattle.numeral.proofs.Sizes.{minus_code}
 use Rattle.numeral.proofs.with_minus.Goals as goal
 
-small : {s : Size} {m : ℕ} → AtMost 9223372036854775808 (number s) → s ≡ Of m → m ≤ 9223372036854775808
-unfolding AtMost number
-small most is = most _ (ap number is)
+small : {s : Option ℕ} {m : ℕ} → AtMost 9223372036854775808 s → s ≡ Some m → m ≤ 9223372036854775808
+unfolding AtMost
+small most is = most _ is
 
-pub returns-then-m-eq0 : goal.returns-then-m-eq0
-unfolding number signed
-returns-then-m-eq0 c = rw (c.in-Of.is, c.if-m-eq0.true)
+pub returns-in_err-m : goal.returns-in_err-m
+unfolding signed
+returns-in_err-m c = let none : c.args.size ≡ None = c.in_err-m.was in c.from_residual.ensures ∙ rw none
 
-pub overflow_mul-code : goal.overflow_mul-code
-overflow_mul-code c = omega (arith, small c.requires c.in-Of.is)
+pub returns-in_err-less_one : goal.returns-in_err-less_one
+unfolding signed
+returns-in_err-less_one c =
+    let read : c.args.size ≡ Some c.in_ok-m.m = c.in_ok-m.was in
+    let zero : c.in_ok-m.m ≡ 0 = omega (arith, c.in_err-less_one.ensures) in
+    c.from_residual-in_err-less_one.ensures ∙ rw (read, zero)
 
-pub overflow_add-code : goal.overflow_add-code
-overflow_add-code c = omega (arith, small c.requires c.in-Of.is)
+pub overflow_mul-less_one : goal.overflow_mul-less_one
+overflow_mul-less_one c = omega (arith, small c.requires c.in_ok-m.was, c.in_ok-less_one.ensures)
 
-pub returns-else-m-eq0 : goal.returns-else-m-eq0
-unfolding number
-returns-else-m-eq0 c = minus_code _ c.if-m-eq0.false c.from_code.ensures (search rules) ∙ ap (signed true) (ap number (sym c.in-Of.is))
+pub overflow_add-less_one : goal.overflow_add-less_one
+overflow_add-less_one c = omega (arith, small c.requires c.in_ok-m.was, c.in_ok-less_one.ensures)
 
-pub returns-in-Bad : goal.returns-in-Bad
-unfolding number signed
-returns-in-Bad c = rw c.in-Bad.is
+pub returns : goal.returns
+returns c =
+    let read : c.args.size ≡ Some c.in_ok-m.m = c.in_ok-m.was in
+    let less : c.in_ok-less_one.less_one ≡ c.in_ok-m.m - 1 = c.in_ok-less_one.ensures.1 in
+    minus_code _ (λ e. omega (arith, c.in_ok-less_one.ensures)) (rw less at c.from_code.ensures) (search rules) ∙ ap (signed true) (sym read)

@@ -5,7 +5,3 @@ use Rattle.quick.proofs.read_six.Goals as goal
 pub returns-then-n-lt73 : goal.returns-then-n-lt73
 unfolding BeginsAt OpensAt
 returns-then-n-lt73 c = tt
-
-pub returns-then-n-at : goal.returns-then-n-at
-unfolding BeginsAt OpensAt
-returns-then-n-at c = tt

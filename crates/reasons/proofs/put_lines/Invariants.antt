@@ -1,4 +1,3 @@
-use Prim.Native.Nat.{◌-◌}
 use lib.ListN.{length}
 use Rattle.store.specs.Layout.{entries_in}
 use Rattle.reasons.proofs.Going.{Going}
@@ -6,6 +5,3 @@ use Rattle.reasons.proofs.put_lines.Given as goal
 
 abbrev pub invariant-loop-k : goal.invariant-loop-k
 invariant-loop-k l = Going (entries_in l.store (length l.times)) l.times l.before l.gap l.latency l.chain l.initial.room l.room l.at l.k
-
-abbrev pub decreases-loop-k : goal.decreases-loop-k
-decreases-loop-k l = length l.chain - l.k

@@ -1,11 +1,11 @@
-use Rattle.rollout.proofs.Program.{names_bad, names_missing, says}
+use Rattle.rollout.proofs.Program.{complains, says}
 use Rattle.rollout.proofs.performed.Goals as goal
 
-pub returns-in-Bad : goal.returns-in-Bad
-returns-in-Bad g c = names_bad _ c.planned-plan.ensures c.in-Bad.is c.complaint.ensures
+pub returns-in-Err : goal.returns-in-Err
+returns-in-Err g c = complains _ c.planned-plan.ensures c.in-Err.is c.complaint.ensures
 
-pub returns-in-Missing : goal.returns-in-Missing
-returns-in-Missing g c = names_missing _ c.planned-plan.ensures c.in-Missing.is c.complaint-in-Missing.ensures
+pub returns-in-Ok : goal.returns-in-Ok
+returns-in-Ok g c = says _ c.planned-plan.ensures c.in-Ok.is c.judge_named-said.ensures c.say.ensures
 
-pub returns-in-Judge : goal.returns-in-Judge
-returns-in-Judge g c = says _ c.planned-plan.ensures c.in-Judge.is c.judge_named-said.ensures c.say.ensures
+pub judge_named-said-requires : goal.judge_named-said-requires
+judge_named-said-requires g c = c.planned-plan.ensures.wishes_within _ c.in-Ok.is

@@ -1,14 +1,16 @@
+use Rattle.std.specs.Prelude.{Err}
+use mathlib.Core.Path.{ap, ◌∙◌}
 use Rattle.shell.proofs.Program.{refuses, says_many, says_unnamed, judges}
 use Rattle.shell.proofs.performed.Goals as goal
 
-pub returns-in-BadChoice : goal.returns-in-BadChoice
-returns-in-BadChoice g c = refuses _ _ c.planned.ensures c.in-BadChoice.is c.refused_nowhere.ensures
+pub returns-in-Err-BadChoice : goal.returns-in-Err-BadChoice
+returns-in-Err-BadChoice g c = refuses _ _ c.planned.ensures (c.in-Err-BadChoice.is ∙ ap Err c.in-Err-BadChoice.field-0-is) c.refused_nowhere.ensures
 
-pub returns-in-TooMany : goal.returns-in-TooMany
-returns-in-TooMany g c = says_many _ _ c.planned.ensures c.in-TooMany.is
+pub returns-in-Err-TooMany : goal.returns-in-Err-TooMany
+returns-in-Err-TooMany g c = says_many _ _ c.planned.ensures (c.in-Err-TooMany.is ∙ ap Err c.in-Err-TooMany.field-0-is)
 
-pub returns-in-Unnamed : goal.returns-in-Unnamed
-returns-in-Unnamed g c = says_unnamed _ _ c.planned.ensures c.in-Unnamed.is
+pub returns-in-Err-Unnamed : goal.returns-in-Err-Unnamed
+returns-in-Err-Unnamed g c = says_unnamed _ _ c.planned.ensures (c.in-Err-Unnamed.is ∙ ap Err c.in-Err-Unnamed.field-0-is)
 
-pub returns-in-Judge : goal.returns-in-Judge
-returns-in-Judge g c = judges _ _ c.planned.ensures c.in-Judge.is c.choice_alone.ensures c.judge_files.ensures
+pub returns-in-Ok : goal.returns-in-Ok
+returns-in-Ok g c = judges _ _ c.planned.ensures c.in-Ok.is c.choice_alone.ensures c.judge_files.ensures

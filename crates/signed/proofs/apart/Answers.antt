@@ -1,6 +1,5 @@
 -- a number comes back from its code.
 use mathlib.Core.Path.{◌∙◌}
-use borrow.Author.Rules.{rules}
 use mir.Facts.{to_z-of_z}
 use Rattle.signed.proofs.Codes.{apart_coded}
 use Rattle.signed.proofs.apart.Goals as goal

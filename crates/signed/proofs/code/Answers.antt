@@ -1,6 +1,6 @@
 -- twice its half, and one more for a negative number.
 use native.Mathlib.Omega.{arith}
-use Rattle.signed.proofs.Halves.{minus_fits, half_plain, half_negative}
+use Rattle.signed.proofs.Halves.{half_plain, half_negative}
 use Rattle.signed.proofs.code.Goals as goal
 
 pub returns-then-z-ge0 : goal.returns-then-z-ge0

@@ -1,5 +1,5 @@
 use borrow.Author.Rules.{rules}
-use Rattle.signed.proofs.Halves.{from_even, from_odd, half_fits}
+use Rattle.signed.proofs.Halves.{from_even, from_odd}
 use Rattle.signed.proofs.from_code.Goals as goal
 
 pub returns-then-n-eq0 : goal.returns-then-n-eq0

@@ -1,8 +1,7 @@
-use Rattle.signed.proofs.Sizes.{below, not_below, the_size}
+use mathlib.Core.Path.{◌∙◌}
+use mir.Facts.{to_z-of_z}
+use Rattle.signed.proofs.Sizes.{size_told}
 use Rattle.signed.proofs.size.Goals as goal
 
-pub returns-then-z-lt0 : goal.returns-then-z-lt0
-returns-then-z-lt0 c = below c.ranges.z c.if-z-lt0.true
-
 pub returns : goal.returns
-returns c = the_size c.ranges.z c.if-z-lt0.false
+returns c = c.ok.ensures.value ∙ size_told _ (to_z-of_z c.ranges.z) c.ranges.z c.try_from.ensures

@@ -7,6 +7,6 @@ pub returns-then-share-eq0 : goal.returns-then-share-eq0
 unfolding kept_places
 returns-then-share-eq0 c = rw (eq-eqb c.args.share 0 (omega (arith, c.if-share-eq0.true)))
 
-pub returns : goal.returns
+pub returns-else-share-eq0 : goal.returns-else-share-eq0
 unfolding kept_places
-returns c = rw (ne_eqb c.args.share 0 (λ e. omega (arith, c.if-share-eq0.false)))
+returns-else-share-eq0 c = rw (ne_eqb c.args.share 0 (λ e. omega (arith, c.if-share-eq0.false)))

@@ -9,5 +9,5 @@ returns-then-s-at c = at_end _ _ c.if-s-at.true
 pub returns-then-space-s : goal.returns-then-space-s
 returns-then-space-s c = no_space _ _ _ c.find-space.ensures.place c.if-space-s.true
 
-pub returns : goal.returns
-returns c = a_space _ _ _ c.find-space.ensures.place (c.find-space.ensures.within (omega arith)) c.if-space-s.false
+pub returns-else-space-s : goal.returns-else-space-s
+returns-else-space-s c = a_space _ _ _ c.find-space.ensures.place (c.find-space.ensures.within (omega arith)) c.if-space-s.false

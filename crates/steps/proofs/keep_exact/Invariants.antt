@@ -1,5 +1,4 @@
 -- The invariant: the first i places are done, the others are as they were.
-use Prim.Native.Nat.{◌-◌}
 use lib.ListN.{length, get_or}
 use Rattle.waits.proofs.Filling.{Filling}
 use Rattle.steps.specs.Tables.{exact_at}
@@ -8,6 +7,3 @@ use Rattle.steps.proofs.keep_exact.Given as goal
 
 abbrev pub invariant-loop-i : goal.invariant-loop-i
 invariant-loop-i l = Filling 0 (λ k. exact_at l.times (get_or l.waits k 0) l.none k (get_or l.initial.table k 0)) (length l.initial.table) l.table l.i × Left l.initial.table l.table l.i
-
-abbrev pub decreases-loop-i : goal.decreases-loop-i
-decreases-loop-i l = length l.initial.table - l.i

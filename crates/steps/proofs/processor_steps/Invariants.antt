@@ -1,5 +1,4 @@
 -- The invariant: the first i steps are there, and of each processor its last place.
-use Prim.Native.Nat.{◌-◌}
 use lib.ListN.{length}
 use Rattle.store.specs.Layout.{entries_in}
 use Rattle.waits.proofs.Filling.{Filling}
@@ -9,6 +8,3 @@ use Rattle.steps.proofs.processor_steps.Given as goal
 
 abbrev pub invariant-loop-i : goal.invariant-loop-i
 invariant-loop-i l = Filling 0 (step_at l.store l.times l.share (length l.initial.out)) (length l.initial.out) l.out l.i × Lasts (entries_in l.store (length l.initial.out)) l.i l.last
-
-abbrev pub decreases-loop-i : goal.decreases-loop-i
-decreases-loop-i l = length l.initial.out - l.i

@@ -1,3 +1,4 @@
+use mathlib.Core.Path.{◌∙◌}
 use borrow.Author.Rules.{rules}
 use Rattle.store.specs.Layout.{width}
 use Rattle.store.proofs.Places.{through, time_is}
@@ -12,4 +13,4 @@ unfolding width
 part-high-requires c = search rules
 
 pub returns : goal.returns
-returns c = through (time_is _ _ c.part-low.ensures c.part-high.ensures c.from_code.ensures) (search rules)
+returns c = through (time_is _ _ (c.from.ensures ∙ c.part-low.ensures) (c.from-2.ensures ∙ c.part-high.ensures) c.from_code.ensures) (search rules)

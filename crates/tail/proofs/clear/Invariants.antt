@@ -1,12 +1,9 @@
 -- As long as there is no hit there is no LF.
-use Prim.Native.Nat.{◌+◌, ◌-◌, ◌≤◌}
+use Prim.Native.Nat.{◌+◌}
 use mathlib.Core.Bool.{false}
 use mathlib.Core.Path.{◌≡◌}
 use Rattle.tail.specs.Ends.{Clear}
 use Rattle.tail.proofs.clear.Given as goal
 
 abbrev pub invariant-loop-j : goal.invariant-loop-j
-invariant-loop-j l = (l.hit ≡ false → Clear l.s l.at (l.at + l.j)) × (l.j ≤ 16)
-
-abbrev pub decreases-loop-j : goal.decreases-loop-j
-decreases-loop-j l = 16 - l.j
+invariant-loop-j l = l.hit ≡ false → Clear l.s l.at (l.at + l.j)

@@ -6,6 +6,6 @@ use Rattle.tail.proofs.none.Goals as goal
 pub returns-then-n-eq0 : goal.returns-then-n-eq0
 returns-then-n-eq0 c = λ s. ended_here s _ _ c.if-n-eq0.true
 
-pub returns : goal.returns
+pub returns-else-n-eq0 : goal.returns-else-n-eq0
 unfolding EndsAt
-returns c = λ s. tt
+returns-else-n-eq0 c = λ s. tt

@@ -8,14 +8,6 @@ pub returns-then-n-eq0 : goal.returns-then-n-eq0
 unfolding EndsAt
 returns-then-n-eq0 c = tt
 
-pub returns-then-s-at : goal.returns-then-s-at
-unfolding EndsAt
-returns-then-s-at c = tt
-
-pub returns-then-s-at-eq10 : goal.returns-then-s-at-eq10
-unfolding EndsAt
-returns-then-s-at-eq10 c = tt
-
 pub returns-then-end-s : goal.returns-then-end-s
 unfolding EndsAt
 returns-then-end-s c = tt

@@ -1,8 +1,10 @@
+use Rattle.std.proofs.lemmas.Result.{err_from_is_err_and}
 use Rattle.text.proofs.Whole.{bad_line, all_good}
 use Rattle.text.proofs.read_table.Goals as goal
 
-pub returns-then-bad-ne0 : goal.returns-then-bad-ne0
-returns-then-bad-ne0 c = bad_line c.requires c.read_lines-bad.ensures c.if-bad-ne0.true
+pub returns-in_err-read_lines : goal.returns-in_err-read_lines
+returns-in_err-read_lines c =
+    let p = err_from_is_err_and c.from_residual.result c.from_residual.ensures.1 in rw (p.1, p.2) (bad_line c.requires c.in_err-read_lines.ensures)
 
 pub returns : goal.returns
-returns c = all_good c.requires c.read_lines-bad.ensures c.if-bad-ne0.false c.first_open.ensures
+returns c = all_good c.requires c.in_ok-read_lines.ensures c.first_open.ensures

@@ -38,15 +38,15 @@ offset_bounds-last-p c = omega (arith, processor_in _ _ _ c.read_line.ensures _ 
 pub bounds-last-p : goal.bounds-last-p
 bounds-last-p c = omega (arith, processor_in _ _ _ c.read_line.ensures _ c.in-Listed.is)
 
-pub returns-then-earlier : goal.returns-then-earlier
-returns-then-earlier c = let find = c.find-end.ensures in
+pub returns-then-time-last : goal.returns-then-time-last
+returns-then-time-last c = let find = c.find-end.ensures in
     let here = searched _ (find.place, find.within (omega arith)) c.if-end-s.false c.read_line.ensures in
-    line_backwards (c.loop-at.invariant _ c.lines-begun.ensures) here _ c.in-Listed.is _ (compared {x = c.in-Listed.r.time} {y = get_or c.loop-at.last c.in-Listed.r.processor (pos 0)} c.earlier.ensures (to_z-of_z {w = w64} (search rules)) (to_z-of_z {w = w64} (search rules))) c.if-earlier.true
+    line_backwards (c.loop-at.invariant _ c.lines-begun.ensures) here _ c.in-Listed.is _ (compared {x = c.in-Listed.r.time} {y = get_or c.loop-at.last c.in-Listed.r.processor (pos 0)} refl (to_z-of_z {w = w64} (search rules)) (to_z-of_z {w = w64} (search rules))) c.if-time-last.true
 
 pub returns-then-most-listed : goal.returns-then-most-listed
 returns-then-most-listed c = let find = c.find-end.ensures in
     let here = searched _ (find.place, find.within (omega arith)) c.if-end-s.false c.read_line.ensures in
-    line_too_many (c.loop-at.invariant _ c.lines-begun.ensures) here _ c.in-Listed.is _ (compared {x = c.in-Listed.r.time} {y = get_or c.loop-at.last c.in-Listed.r.processor (pos 0)} c.earlier.ensures (to_z-of_z {w = w64} (search rules)) (to_z-of_z {w = w64} (search rules))) c.if-earlier.false c.if-most-listed.true
+    line_too_many (c.loop-at.invariant _ c.lines-begun.ensures) here _ c.in-Listed.is _ (compared {x = c.in-Listed.r.time} {y = get_or c.loop-at.last c.in-Listed.r.processor (pos 0)} refl (to_z-of_z {w = w64} (search rules)) (to_z-of_z {w = w64} (search rules))) c.if-time-last.false c.if-most-listed.true
 
 pub offset_bounds-last-p-in-Listed : goal.offset_bounds-last-p-in-Listed
 offset_bounds-last-p-in-Listed c = omega (arith, processor_in _ _ _ c.read_line.ensures _ c.in-Listed.is)
@@ -57,7 +57,7 @@ bounds-last-p-in-Listed c = omega (arith, processor_in _ _ _ c.read_line.ensures
 pub loop-at-preserved : goal.loop-at-preserved
 loop-at-preserved c store₀ going₀ = let find = c.find-end.ensures in
     let here = searched _ (find.place, find.within (omega arith)) c.if-end-s.false c.read_line.ensures in
-    line_listed (c.loop-at.invariant store₀ going₀) here _ c.in-Listed.is _ (compared {x = c.in-Listed.r.time} {y = get_or c.loop-at.last c.in-Listed.r.processor (pos 0)} c.earlier.ensures (to_z-of_z {w = w64} (search rules)) (to_z-of_z {w = w64} (search rules))) c.if-earlier.false
+    line_listed (c.loop-at.invariant store₀ going₀) here _ c.in-Listed.is _ (compared {x = c.in-Listed.r.time} {y = get_or c.loop-at.last c.in-Listed.r.processor (pos 0)} refl (to_z-of_z {w = w64} (search rules)) (to_z-of_z {w = w64} (search rules))) c.if-time-last.false
     c.if-most-listed.false _ c.put.ensures c.put.auto.store _ (search rules)
 
 pub returns : goal.returns

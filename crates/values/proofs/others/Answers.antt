@@ -1,33 +1,26 @@
-use Prim.Native.Nat.{◌+◌, ◌-◌, ◌≤◌}
-use mathlib.Core.Path.{◌≡◌, sym, ◌∙◌}
-use borrow.Author.Rules.{rules}
-use native.Mathlib.Nat.{sub-zero}
-use Rattle.paper.specs.Line.{values_of, as_others}
-use Rattle.field.specs.Cursor.{rest_at, read_as}
+use Rattle.std.specs.Prelude.{Err}
+use Prim.Native.Nat.{ℕ, ◌+◌}
+use mathlib.Core.Path.{◌≡◌, sym, ap, ◌∙◌}
+use native.Mathlib.Omega.{arith}
 use Rattle.field.proofs.Cursors.{got, not_got}
+use Rattle.values.proofs.Exits.{exit}
 use Rattle.values.proofs.Values.{values_stop, values_go, values_end, values_more}
 use Rattle.values.proofs.others.Goals as goal
 
-pub returns-in_default : goal.returns-in_default
-returns-in_default c = let c₂ = c in
-    let value_at = c₂.value_at.ensures in
-    let c₃ = c₂ in
-    let loop_test = c₃.loop-i-test.true in
-    let inv = c₃.loop-i.invariant in
-    values_stop _ _ _ _ loop_test (not_got _ _ _ value_at c.in_default.is) ∙ sym inv.1
+pub returns-in_err-next : goal.returns-in_err-next
+returns-in_err-next c =
+    exit _ c.from_residual.ensures.1 c.in_err-next.ensures.ok_part c.in_err-next.ensures.value
+    ∙ values_stop _ _ _ _ c.loop-i-test.true (not_got _ _ _ c.value_at.ensures c.in_err-next.ensures.ok_part)
+    ∙ sym c.loop-i.invariant.1
 
 pub loop-i-preserved : goal.loop-i-preserved
-loop-i-preserved c = let c₁ = c in
-    let next = c₁.in-Value.is in
-    let c₃ = c₁ in
-    let value_at = c₃.value_at.ensures in
-    let c₄ = c₃ in
-    let loop_test = c₄.loop-i-test.true in
-    let inv = c₄.loop-i.invariant in
-    (search rules, inv.1 ∙ values_go _ _ _ _ loop_test _ _ (got _ _ _ value_at _ _ next))
+loop-i-preserved c =
+    (omega arith, c.loop-i.invariant.1 ∙ values_go _ _ _ _ c.loop-i-test.true _ _ (got _ _ _ c.value_at.ensures _ _ c.in_ok-next.ensures.ok_part))
 
 pub returns-then-l-p : goal.returns-then-l-p
 returns-then-l-p c = values_end _ _ _ _ _ c.loop-i-test.false c.if-l-p.true ∙ sym c.loop-i.invariant.1
 
-pub returns : goal.returns
-returns c = values_more _ _ _ _ _ c.loop-i-test.false c.if-l-p.false ∙ sym c.loop-i.invariant.1
+pub returns-else-l-p : goal.returns-else-l-p
+returns-else-l-p c =
+    let all : c.args.n ≡ c.loop-i.i = omega (arith, c.loop-i-test.false, c.loop-i.invariant.0) in
+    ap (λ (k : ℕ). Err (7 + k)) all ∙ values_more _ _ _ _ _ c.loop-i-test.false c.if-l-p.false ∙ sym c.loop-i.invariant.1

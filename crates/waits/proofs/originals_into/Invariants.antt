@@ -1,5 +1,4 @@
 -- The invariant: the first i originals are there.
-use Prim.Native.Nat.{◌-◌}
 use lib.ListN.{length}
 use lib.IntN.{pos}
 use Rattle.store.specs.Layout.{entries_in}
@@ -9,6 +8,3 @@ use Rattle.waits.proofs.originals_into.Given as goal
 
 abbrev pub invariant-loop-i : goal.invariant-loop-i
 invariant-loop-i l = Filling (pos 0) (original_at (entries_in l.store (length l.initial.out))) (length l.initial.out) l.out l.i
-
-abbrev pub decreases-loop-i : goal.decreases-loop-i
-decreases-loop-i l = length l.initial.out - l.i

@@ -4,4 +4,4 @@ use Rattle.waits.proofs.Gaps.{thousands}
 use Rattle.waits.proofs.thousandths.Goals as goal
 
 pub returns : goal.returns
-returns c = omega (arith, thousands c.args.share c.args.n)
+returns c = rw c.from-share.ensures (omega (arith, thousands c.args.share c.args.n))

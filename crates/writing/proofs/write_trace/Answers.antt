@@ -1,14 +1,13 @@
 -- Written where the answer is a length; else the room is as it was.
 use mathlib.Core.Path.{sym, ◌∙◌}
-use Rattle.writing.proofs.Outcomes.{tells, held, left_short, left_unfit}
+use Rattle.std.proofs.lemmas.Result.{err_from_is_err_and}
+use Rattle.writing.proofs.Outcomes.{tells, held, left}
 use Rattle.writing.proofs.write_trace.Goals as goal
 
 pub fill-requires : goal.fill-requires
-fill-requires c = let k = c in
-    held (tells _ k.args.room.now) (sym k.measure.ensures ∙ k.in-Length.is)
+fill-requires c = held (tells _ c.args.room.now) (sym c.measure.ensures ∙ c.in_ok-n.was)
 
-pub returns-in-NoRoom : goal.returns-in-NoRoom
-returns-in-NoRoom c = left_short c.measure.ensures c.in-NoRoom.is
-
-pub returns-in-Unfit : goal.returns-in-Unfit
-returns-in-Unfit c = left_unfit c.measure.ensures c.in-Unfit.is
+pub returns-in_err-n : goal.returns-in_err-n
+returns-in_err-n c =
+    let p = err_from_is_err_and c.from_residual.result c.from_residual.ensures.1 in
+    rw (p.1, p.2) (left c.measure.ensures c.in_err-n.was)

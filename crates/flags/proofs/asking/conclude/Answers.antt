@@ -2,23 +2,25 @@
 use Rattle.flags.proofs.Ends.{no_choice, no_trace, no_table, no_levels, no_statistics, no_share, all_given}
 use Rattle.flags.proofs.asking.conclude.Goals as goal
 
-pub returns-then-given : goal.returns-then-given
-returns-then-given c = no_choice _ _ c.if-given.true
+pub returns-in_default : goal.returns-in_default
+returns-in_default c = no_choice _ _ c.in_default.is
 
-pub returns-then-given-2 : goal.returns-then-given-2
-returns-then-given-2 c = no_trace _ _ c.if-given.false c.if-given-2.true
+pub returns-in_default-trace : goal.returns-in_default-trace
+returns-in_default-trace c = no_trace _ _ c.in-Some.is c.in_default-trace.is
 
-pub returns-then-given-3 : goal.returns-then-given-3
-returns-then-given-3 c = no_table _ _ c.if-given.false c.if-given-2.false c.if-given-3.true
+pub returns-in_default-table : goal.returns-in_default-table
+returns-in_default-table c = no_table _ _ c.in-Some.is c.in-Some-trace.is c.in_default-table.is
 
-pub returns-then-given-4 : goal.returns-then-given-4
-returns-then-given-4 c = no_levels _ _ c.if-given.false c.if-given-2.false c.if-given-3.false c.if-given-4.true
+pub returns-in_default-levels : goal.returns-in_default-levels
+returns-in_default-levels c = no_levels _ _ c.in-Some.is c.in-Some-trace.is c.in-Some-table.is c.in_default-levels.is
 
-pub returns-then-given-5 : goal.returns-then-given-5
-returns-then-given-5 c = no_statistics _ _ c.if-given.false c.if-given-2.false c.if-given-3.false c.if-given-4.false c.if-given-5.true
+pub returns-in_default-statistics : goal.returns-in_default-statistics
+returns-in_default-statistics c = no_statistics _ _ c.in-Some.is c.in-Some-trace.is c.in-Some-table.is c.in-Some-levels.is c.in_default-statistics.is
 
-pub returns-then-given-6 : goal.returns-then-given-6
-returns-then-given-6 c = no_share _ _ c.if-given.false c.if-given-2.false c.if-given-3.false c.if-given-4.false c.if-given-5.false c.if-given-6.true
+pub returns-in_default-share : goal.returns-in_default-share
+returns-in_default-share c = no_share _ _ c.in-Some.is c.in-Some-trace.is c.in-Some-table.is c.in-Some-levels.is c.in-Some-statistics.is c.in_default-share.is
 
 pub returns : goal.returns
-returns c = all_given _ _ c.if-given.false c.if-given-2.false c.if-given-3.false c.if-given-4.false c.if-given-5.false c.if-given-6.false c.requires c.wishes_of.ensures
+returns c =
+    all_given _ _ c.in-Some.is c.in-Some-trace.is c.in-Some-table.is c.in-Some-levels.is c.in-Some-statistics.is c.in-Some-share.is c.requires
+    (rw (← c.cut.ensures, ← c.cut-2.ensures, ← c.cut-3.ensures, ← c.cut-4.ensures, ← c.choice_of.ensures, ← c.levels_of.ensures, ← c.switch_of.ensures, ← c.share_of.ensures) c.asked_of-asked.ensures)

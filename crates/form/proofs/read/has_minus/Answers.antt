@@ -1,12 +1,21 @@
--- An empty field has no minus.
-use mathlib.Core.Path.{refl}
+use Prim.Native.Nat.{ℕ}
+use mathlib.Core.Path.{◌≡◌, refl, ◌∙◌}
+use mathlib.Core.Bool.{and-true}
+use mathlib.Core.List.{List, [], ◌∷◌}
+use lib.Dec.{eqb}
+use Rattle.std.proofs.Common.{arith}
+use Rattle.std.proofs.lemmas.Bool.Decides.{nat_tests}
+use Rattle.std.specs.List.{starts_with}
 use Rattle.paper.specs.Forms.{has_minus}
-use Rattle.forms.proofs.Signs.{no_byte}
 use Rattle.form.proofs.read.has_minus.Goals as goal
 
-pub returns-then-s-eq0 : goal.returns-then-s-eq0
-returns-then-s-eq0 c = no_byte _ c.if-s-eq0.true
+turned : (b : ℕ) → eqb 45 b ≡ eqb b 45
+turned b = grind (arith, nat_tests)
 
-pub returns-else-s-eq0 : goal.returns-else-s-eq0
+minus_first : (s : List ℕ) → starts_with eqb s (45 ∷ []) ≡ has_minus s
 unfolding has_minus
-returns-else-s-eq0 c = refl
+minus_first [] = refl
+minus_first (b ∷ s) = and-true (eqb 45 b) ∙ turned b
+
+pub returns : goal.returns
+returns c = c.starts_with.ensures.value ∙ minus_first _

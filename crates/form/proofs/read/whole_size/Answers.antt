@@ -1,11 +1,9 @@
 -- The length says whether the number is in range.
 use mathlib.Core.Path.{sym, ◌∙◌}
-use Rattle.forms.specs.Sizes.{number}
 use Rattle.forms.proofs.Wholes.{whole_long, whole_short}
 use Rattle.form.proofs.read.whole_size.Goals as goal
 
 pub returns-then-s-gt9 : goal.returns-then-s-gt9
-unfolding number
 returns-then-s-gt9 c = sym (whole_long _ c.if-s-gt9.true)
 
 pub returns : goal.returns

@@ -5,6 +5,6 @@ pub returns-in-Three : goal.returns-in-Three
 unfolding is_three
 returns-in-Three c = rw c.in-Three.is
 
-pub returns-in-Others : goal.returns-in-Others
+pub returns-in_default : goal.returns-in_default
 unfolding is_three
-returns-in-Others c = rw c.in-Others.is
+returns-in_default c = rw c.in_default.is

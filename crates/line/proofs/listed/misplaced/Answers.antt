@@ -1,10 +1,9 @@
 use borrow.Author.Rules.{rules}
-use mathlib.Core.Path.{sym, ◌∙◌}
 use Rattle.line.proofs.Parts.{own_processor, other_processor}
 use Rattle.line.proofs.listed.misplaced.Goals as goal
 
-pub returns-in-Of : goal.returns-in-Of
-returns-in-Of c = own_processor _ (search rules) _ (sym c.up_to.ensures ∙ c.in-Of.is)
+pub returns-then-is_some : goal.returns-then-is_some
+returns-then-is_some c = own_processor _ (search rules) c.up_to.ensures c.is_some.ensures c.if-is_some.true
 
-pub returns-in-Outside : goal.returns-in-Outside
-returns-in-Outside c = other_processor _ (search rules) (sym c.up_to.ensures ∙ c.in-Outside.is)
+pub returns-else-is_some : goal.returns-else-is_some
+returns-else-is_some c = other_processor _ (search rules) c.up_to.ensures c.is_some.ensures c.if-is_some.false

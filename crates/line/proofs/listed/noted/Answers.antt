@@ -1,7 +1,6 @@
 use Rattle.paper.specs.Line.{message_of}
-use Rattle.line.specs.Sorting.{note_of}
 use Rattle.line.proofs.listed.noted.Goals as goal
 
 pub returns-in-Others : goal.returns-in-Others
-unfolding note_of message_of
+unfolding message_of
 returns-in-Others c = rw c.in-Others.is

@@ -6,6 +6,6 @@ pub returns-then-first_goes : goal.returns-then-first_goes
 unfolding advanced_by
 returns-then-first_goes c = rw (← c.first_goes.ensures, c.if-first_goes.true) (c.head_at.ensures, refl)
 
-pub returns : goal.returns
+pub returns-else-first_goes : goal.returns-else-first_goes
 unfolding advanced_by
-returns c = rw (← c.first_goes.ensures, c.if-first_goes.false) (refl, c.head_at-2.ensures)
+returns-else-first_goes c = rw (← c.first_goes.ensures, c.if-first_goes.false) (refl, c.head_at-else-first_goes.ensures)

@@ -1,10 +1,14 @@
 -- The part of the room from `at` on, copied into.
-use Rattle.std.proofs.Common.{◌≡◌, ◌∙◌, length, arith, rules, length-take, length-drop}
-use Rattle.shown.proofs.Stores.{copied}
+use mathlib.Core.Path.{◌≡◌, refl, ◌∙◌}
+use native.Mathlib.Omega.{arith}
+use lib.ListN.{length}
+use lib.Seq.{take-length}
+use Rattle.std.proofs.lemmas.List.Edits.{sets-eq}
+use Rattle.std.proofs.lemmas.Slice.{put_mid-paste}
 use Rattle.merging.proofs.weave.put.Goals as goal
 
 pub returns : goal.returns
 returns c =
-    let a = c.args in
-    let e : c.copy.result ≡ length a.word.now = simp (length-take, length-drop) at c.copy.ensures.count ∙ omega arith in
-    copied a.room.now a.word.now _ _ (search rules) (rw e at c.copy.ensures.bytes)
+    let e : c.copy_from_slice.new.self ≡ c.args.word.now = c.copy_from_slice.ensures.after in
+    put_mid-paste _ _ _ _ c.args.word.now (length c.args.word.now) e (omega arith) refl
+    ∙ rw (sets-eq c.args.word.now c.args.room.now c.args.at c.requires, take-length)

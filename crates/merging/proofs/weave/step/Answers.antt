@@ -5,6 +5,6 @@ pub returns-then-first_goes : goal.returns-then-first_goes
 unfolding chosen
 returns-then-first_goes c = rw (← c.first_goes.ensures, c.if-first_goes.true)
 
-pub returns : goal.returns
+pub returns-else-first_goes : goal.returns-else-first_goes
 unfolding chosen
-returns c = rw (← c.first_goes.ensures, c.if-first_goes.false)
+returns-else-first_goes c = rw (← c.first_goes.ensures, c.if-first_goes.false)

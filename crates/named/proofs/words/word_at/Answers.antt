@@ -1,5 +1,4 @@
 -- where the word ends is found by its separator.
-use borrow.Author.Rules.{rules}
 use Rattle.named.proofs.Cuts.{word_here, word_past}
 use native.Mathlib.Omega.{arith}
 use Rattle.named.proofs.words.word_at.Goals as goal

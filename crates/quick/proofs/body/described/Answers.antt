@@ -1,20 +1,21 @@
 -- Whole numbers, or times.
-use mathlib.Core.Path.{sym, ◌∙◌}
-use mir.Facts.{to_z-of_z}
+use native.Mathlib.Omega.{arith}
+use Rattle.std.proofs.lemmas.Bool.Decides.{nat_tests}
+use Rattle.signed.proofs.Equal.{bits_same}
+use Rattle.paper.specs.Line.{described}
 use Rattle.field.specs.Cursor.{read_as}
-use Rattle.values.proofs.Values.{under_two, under_five}
 use Rattle.quick.specs.Lines.{in_form, DataAt}
 use Rattle.quick.proofs.Takes.{as_described}
 use Rattle.quick.proofs.body.described.Goals as goal
 
-pub returns-then-same : goal.returns-then-same
-unfolding in_form read_as
-returns-then-same c = as_described _ _ _ _ _ (λ f. under_two _ f (to_z-of_z c.ranges.descriptor) (sym c.same.ensures ∙ c.if-same.true)) c.values.ensures
+pub returns-in-2 : goal.returns-in-2
+unfolding in_form read_as described
+returns-in-2 c = as_described _ _ _ _ _ (λ f. grind (arith, nat_tests, bits_same)) c.values.ensures
 
-pub returns-then-same-2 : goal.returns-then-same-2
-unfolding in_form read_as
-returns-then-same-2 c = as_described _ _ _ _ _ (λ f. under_five _ f (to_z-of_z c.ranges.descriptor) (sym c.same.ensures ∙ c.if-same.false) (sym c.same-2.ensures ∙ c.if-same-2.true)) c.values-then-same-2.ensures
+pub returns-in-5 : goal.returns-in-5
+unfolding in_form read_as described
+returns-in-5 c = as_described _ _ _ _ _ (λ f. grind (arith, nat_tests, bits_same)) c.values-in-5.ensures
 
-pub returns : goal.returns
+pub returns-in_default : goal.returns-in_default
 unfolding DataAt
-returns c = tt
+returns-in_default c = tt

@@ -6,6 +6,6 @@ use Rattle.quick.proofs.body.none.Goals as goal
 pub returns-then-n-eq0 : goal.returns-then-n-eq0
 returns-then-n-eq0 c = λ s kind. no_data_here s _ kind _ c.if-n-eq0.true
 
-pub returns : goal.returns
+pub returns-else-n-eq0 : goal.returns-else-n-eq0
 unfolding HoldsAt DataAt
-returns c = λ s kind. tt
+returns-else-n-eq0 c = λ s kind. tt

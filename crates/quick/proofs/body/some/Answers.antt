@@ -9,14 +9,10 @@ pub returns-then-n-eq0 : goal.returns-then-n-eq0
 unfolding HoldsAt DataAt
 returns-then-n-eq0 c = tt
 
-pub returns-then-n-gt16 : goal.returns-then-n-gt16
-unfolding HoldsAt DataAt
-returns-then-n-gt16 c = tt
-
 pub returns-then-is_statistics : goal.returns-then-is_statistics
 unfolding HoldsAt pairs_in
 returns-then-is_statistics c = as_described _ _ _ _ _ (λ f. in_pairs (to_z-of_z c.ranges.kind) c.is_statistics.ensures _ f c.if-is_statistics.true) c.described.ensures
 
-pub returns : goal.returns
+pub returns-else-is_statistics : goal.returns-else-is_statistics
 unfolding HoldsAt
-returns c = as_described _ _ _ _ _ (λ f. in_data (to_z-of_z c.ranges.kind) c.is_statistics.ensures _ f c.if-is_statistics.false) c.«data».ensures
+returns-else-is_statistics c = as_described _ _ _ _ _ (λ f. in_data (to_z-of_z c.ranges.kind) c.is_statistics.ensures _ f c.if-is_statistics.false) c.«data».ensures

@@ -7,9 +7,5 @@ pub returns-then-n-lt18 : goal.returns-then-n-lt18
 unfolding ValueAt
 returns-then-n-lt18 c = tt
 
-pub returns-then-n-at : goal.returns-then-n-at
-unfolding ValueAt
-returns-then-n-at c = tt
-
 pub returns : goal.returns
 returns c = value_told _ (form_clean _) _ _ _ _ _ _ c.stop.ensures c.in_form.ensures

@@ -4,6 +4,3 @@ use Rattle.quick.proofs.body.values.Given as goal
 
 abbrev pub invariant-loop-left : goal.invariant-loop-left
 invariant-loop-left l = Taking l.form l.n l.s l.at l.a l.b l.c l.p l.left
-
-abbrev pub decreases-loop-left : goal.decreases-loop-left
-decreases-loop-left l = l.left

@@ -7,15 +7,15 @@ use Rattle.quick.proofs.Opens.{count_here}
 use borrow.Author.Rules.{rules}
 use Rattle.quick.proofs.head.count.Goals as goal
 
-pub returns-in_default : goal.returns-in_default
+pub returns-in_err-number : goal.returns-in_err-number
 unfolding CountAt
-returns-in_default c = tt
+returns-in_err-number c = rw c.from_residual.ensures tt
 
-pub returns-in_default-up_to : goal.returns-in_default-up_to
+pub returns-in_err-n : goal.returns-in_err-n
 unfolding CountAt
-returns-in_default-up_to c = tt
+returns-in_err-n c = rw c.from_residual-in_err-n.ensures tt
 
 pub returns : goal.returns
 unfolding CountAt
 returns c = let k = value_told whole_of whole_clean _ _ _ _ _ _ c.stop.ensures c.whole.ensures in
-    count_here _ _ _ _ _ (search rules) (sym c.up_to.ensures ∙ c.in-Of-up_to.is) (value_of whole_of _ _ _ _ k _ _ c.in-Of.is)
+    count_here _ _ _ _ _ (search rules) (sym c.up_to.ensures ∙ c.in_ok-n.was) (value_of whole_of _ _ _ _ k _ _ c.in_ok-number.was)

@@ -8,40 +8,40 @@ use Rattle.quick.proofs.Opens.{six_here}
 use borrow.Author.Rules.{rules}
 use Rattle.quick.proofs.head.six.Goals as goal
 
-pub returns-in_default : goal.returns-in_default
+pub returns-in_err-kind : goal.returns-in_err-kind
 unfolding BeginsAt OpensAt
-returns-in_default c = tt
+returns-in_err-kind c = rw c.from_residual.ensures tt
 
 pub whole-requires-2 : goal.whole-requires-2
 unfolding stop_of
-whole-requires-2 c = let k₁ = field_told whole_of whole_clean _ _ _ false _ c.whole.ensures _ _ c.in-Of.is in
+whole-requires-2 c = let k₁ = field_told whole_of whole_clean _ _ _ false _ c.whole.ensures _ _ c.in_ok-kind.was in
     omega (arith, c.requires, k₁.1)
 
-pub returns-in_default-whole : goal.returns-in_default-whole
+pub returns-in_err-event : goal.returns-in_err-event
 unfolding BeginsAt OpensAt
-returns-in_default-whole c = tt
+returns-in_err-event c = rw c.from_residual-in_err-event.ensures tt
 
 pub time-requires : goal.time-requires
 unfolding stop_of
-time-requires c = let k₁ = field_told whole_of whole_clean _ _ _ false _ c.whole.ensures _ _ c.in-Of.is in
-    let k₂ = field_told whole_of whole_clean _ _ _ false _ c.whole-2.ensures _ _ c.in-Of-whole.is in
+time-requires c = let k₁ = field_told whole_of whole_clean _ _ _ false _ c.whole.ensures _ _ c.in_ok-kind.was in
+    let k₂ = field_told whole_of whole_clean _ _ _ false _ c.whole-2.ensures _ _ c.in_ok-event.was in
     omega (arith, c.requires, k₁.1, k₂.1)
 
-pub returns-in_default-time : goal.returns-in_default-time
+pub returns-in_err-time : goal.returns-in_err-time
 unfolding BeginsAt OpensAt
-returns-in_default-time c = tt
+returns-in_err-time c = rw c.from_residual-in_err-time.ensures tt
 
 pub place-requires : goal.place-requires
 unfolding stop_of
-place-requires c = let k₁ = field_told whole_of whole_clean _ _ _ false _ c.whole.ensures _ _ c.in-Of.is in
-    let k₂ = field_told whole_of whole_clean _ _ _ false _ c.whole-2.ensures _ _ c.in-Of-whole.is in
-    let k₃ = field_told time_of time_clean _ _ _ false _ c.time.ensures _ _ c.in-Of-time.is in
+place-requires c = let k₁ = field_told whole_of whole_clean _ _ _ false _ c.whole.ensures _ _ c.in_ok-kind.was in
+    let k₂ = field_told whole_of whole_clean _ _ _ false _ c.whole-2.ensures _ _ c.in_ok-event.was in
+    let k₃ = field_told time_of time_clean _ _ _ false _ c.time.ensures _ _ c.in_ok-time.was in
     omega (arith, c.requires, k₁.1, k₂.1, k₃.1)
 
 pub returns : goal.returns
 unfolding stop_of
-returns c = let k₁ = field_told whole_of whole_clean _ _ _ false _ c.whole.ensures _ _ c.in-Of.is in
-    let k₂ = field_told whole_of whole_clean _ _ _ false _ c.whole-2.ensures _ _ c.in-Of-whole.is in
-    let k₃ = field_told time_of time_clean _ _ _ false _ c.time.ensures _ _ c.in-Of-time.is in
+returns c = let k₁ = field_told whole_of whole_clean _ _ _ false _ c.whole.ensures _ _ c.in_ok-kind.was in
+    let k₂ = field_told whole_of whole_clean _ _ _ false _ c.whole-2.ensures _ _ c.in_ok-event.was in
+    let k₃ = field_told time_of time_clean _ _ _ false _ c.time.ensures _ _ c.in_ok-time.was in
     six_here _ _ _ _ _ (search rules) (search rules)
     (search rules) k₁.0 k₂.0 k₃.0 _ c.place.ensures

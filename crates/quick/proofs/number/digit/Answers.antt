@@ -19,4 +19,4 @@ unfolding Within
 with_sign-requires c = omega (arith, a_digit _ (sym c.no_digit.ensures ∙ c.if-no_digit.false))
 
 pub returns : goal.returns
-returns c = rw c.with_sign.ensures (digit_here _ _ _ _ (search rules) c.wide-b.ensures (sym c.no_digit.ensures ∙ c.if-no_digit.false) (search rules))
+returns c = rw c.with_sign.ensures (digit_here _ _ _ _ (search rules) c.from-b.ensures (sym c.no_digit.ensures ∙ c.if-no_digit.false) (search rules))

@@ -1,4 +1,6 @@
 -- A text, and the byte behind it.
+use Rattle.std.proofs.lemmas.Bool.Decides.{Decides-eqb}
+use Rattle.std.proofs.lemmas.Slice.Eq.{slice_eq-Decides}
 use Rattle.quick.specs.Words.{Inside, FieldAt}
 use Rattle.quick.proofs.Stops.{stopped_here, text_here}
 use Rattle.quick.proofs.number.quoted.Goals as goal
@@ -7,9 +9,9 @@ pub stopped-requires : goal.stopped-requires
 unfolding Inside
 stopped-requires c = c.requires
 
-pub returns-then-is_same : goal.returns-then-is_same
-returns-then-is_same c = rw c.stopped.ensures (stopped_here _ _ _ _ _ _ c.requires (text_here _ _ _ c.is_same.ensures c.if-is_same.true))
+pub returns-then-eq : goal.returns-then-eq
+returns-then-eq c = rw c.stopped.ensures (stopped_here _ _ _ _ _ _ c.requires (text_here _ _ _ ((slice_eq-Decides Decides-eqb _ _ _ c.eq.ensures).0 c.if-eq.true)))
 
-pub returns : goal.returns
+pub returns-else-eq : goal.returns-else-eq
 unfolding FieldAt
-returns c = tt
+returns-else-eq c = tt

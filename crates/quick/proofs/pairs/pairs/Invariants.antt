@@ -4,6 +4,3 @@ use Rattle.quick.proofs.pairs.pairs.Given as goal
 
 abbrev pub invariant-loop-left : goal.invariant-loop-left
 invariant-loop-left l = Pairing l.form l.n l.s l.at l.p l.left
-
-abbrev pub decreases-loop-left : goal.decreases-loop-left
-decreases-loop-left l = l.left

@@ -1,12 +1,12 @@
-use mathlib.Core.Path.{sym, ap, ◌∙◌}
-use borrow.Author.Rules.{rules}
-use Rattle.signed.specs.Naturals.{number_in}
-use Rattle.rule.proofs.Threes.{good_number, bad_number}
+use Rattle.std.proofs.Common.{arith, rules, sym, ◌∙◌}
+use Rattle.std.proofs.lemmas.Grind.{common_steps}
+use Rattle.rule.specs.Rule.{natural}
+use Rattle.rule.proofs.Threes.{good_number}
 use Rattle.rule.proofs.whom.number.Goals as goal
 
-pub returns-in-Good : goal.returns-in-Good
-returns-in-Good c = let c₄ = c in
-    ap number_in c.up_to.ensures ∙ good_number _ (search rules) (sym c₄.read_whole.ensures ∙ c.in-Good.is)
+pub returns-in_err-z : goal.returns-in_err-z
+unfolding natural
+returns-in_err-z c = grind (arith, common_steps)
 
-pub returns-in-Bad : goal.returns-in-Bad
-returns-in-Bad c = bad_number _ (sym c.read_whole.ensures ∙ c.in-Bad.is)
+pub returns : goal.returns
+returns c = c.up_to.ensures ∙ good_number _ (search rules) (sym c.read_whole.ensures ∙ c.in_ok-z.was)

@@ -1,11 +1,14 @@
--- A minus is one byte, and no sign is none.
+use mathlib.Core.Path.{◌≡◌, refl, ◌∙◌}
+use mathlib.Core.Bool.{Bool, true, false}
+use lib.ListN.{length}
+use mir.Val.{bool_byte}
 use Rattle.forms.specs.Sizes.{sign_shown}
 use Rattle.shown.proofs.write.sign_length.Goals as goal
 
-pub returns-then-minus : goal.returns-then-minus
+counted : (minus : Bool) → bool_byte minus ≡ length (sign_shown minus)
 unfolding sign_shown
-returns-then-minus c = rw c.if-minus.true
+counted true = refl
+counted false = refl
 
-pub returns-else-minus : goal.returns-else-minus
-unfolding sign_shown
-returns-else-minus c = rw c.if-minus.false
+pub returns : goal.returns
+returns c = c.from.ensures ∙ counted _

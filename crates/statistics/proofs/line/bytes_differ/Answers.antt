@@ -7,6 +7,6 @@ pub returns-in_default : goal.returns-in_default
 returns-in_default c = no_head _ _ _ _ _ c.read_head.ensures _ _ c.in_default.is
 
 pub returns : goal.returns
-returns c = let kind = c.in-Six.h.kind in
+returns c = let kind = c.in-Ok.h.kind in
     let same : to_z w64 (of_z w64 kind) ≡ kind = search rules in
-    with_head _ _ _ _ _ c.read_head.ensures _ _ c.in-Six.is same c.data_differ.ensures
+    with_head _ _ _ _ _ c.read_head.ensures _ _ c.in-Ok.is same c.data_differ.ensures

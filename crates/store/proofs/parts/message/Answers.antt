@@ -16,4 +16,4 @@ unfolding width
 part-peer-requires c = search rules
 
 pub returns : goal.returns
-returns c = message_is _ _ c.part-length.ensures (through c.whole-tag.ensures (search rules)) c.part-peer.ensures
+returns c = rw c.from.ensures (message_is _ _ c.part-length.ensures (through c.whole-tag.ensures (search rules)) c.part-peer.ensures)

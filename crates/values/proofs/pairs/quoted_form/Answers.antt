@@ -1,13 +1,14 @@
-use borrow.Author.Rules.{rules}
-use mir.Facts.{to_z-of_z}
+use native.Mathlib.Omega.{arith}
+use Rattle.std.proofs.lemmas.Bool.Decides.{nat_tests}
+use Rattle.paper.specs.Line.{quoted_for}
 use Rattle.field.specs.Cursor.{read_as}
-use Rattle.values.proofs.Paired.{times_quoted_lem, numbers_quoted_lem}
+use Rattle.signed.proofs.Equal.{bits_same}
 use Rattle.values.proofs.pairs.quoted_form.Goals as goal
 
-pub returns-then-same : goal.returns-then-same
-unfolding read_as
-returns-then-same c = times_quoted_lem (to_z-of_z c.ranges.kind) c.same.ensures c.if-same.true
+pub returns-then-kind-eqminus101 : goal.returns-then-kind-eqminus101
+unfolding read_as quoted_for
+returns-then-kind-eqminus101 c = grind (arith, nat_tests, bits_same)
 
-pub returns : goal.returns
-unfolding read_as
-returns c = numbers_quoted_lem (to_z-of_z c.ranges.kind) c.same.ensures c.if-same.false
+pub returns-else-kind-eqminus101 : goal.returns-else-kind-eqminus101
+unfolding read_as quoted_for
+returns-else-kind-eqminus101 c = grind (arith, nat_tests, bits_same)

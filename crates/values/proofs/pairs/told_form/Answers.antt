@@ -1,13 +1,14 @@
-use borrow.Author.Rules.{rules}
-use mir.Facts.{to_z-of_z}
+use native.Mathlib.Omega.{arith}
+use Rattle.std.proofs.lemmas.Bool.Decides.{nat_tests}
+use Rattle.paper.specs.Line.{told_for}
 use Rattle.field.specs.Cursor.{read_as}
-use Rattle.values.proofs.Paired.{times_told, numbers_told}
+use Rattle.signed.proofs.Equal.{bits_same}
 use Rattle.values.proofs.pairs.told_form.Goals as goal
 
-pub returns-then-same : goal.returns-then-same
-unfolding read_as
-returns-then-same c = times_told (to_z-of_z c.ranges.kind) c.same.ensures c.if-same.true
+pub returns-then-kind-eqminus101 : goal.returns-then-kind-eqminus101
+unfolding read_as told_for
+returns-then-kind-eqminus101 c = grind (arith, nat_tests, bits_same)
 
-pub returns : goal.returns
-unfolding read_as
-returns c = numbers_told (to_z-of_z c.ranges.kind) c.same.ensures c.if-same.false
+pub returns-else-kind-eqminus101 : goal.returns-else-kind-eqminus101
+unfolding read_as told_for
+returns-else-kind-eqminus101 c = grind (arith, nat_tests, bits_same)

@@ -1,10 +1,7 @@
 -- The part of the room from `at` on, copied into.
-use Rattle.std.proofs.Common.{◌≡◌, ◌∙◌, length, arith, rules, length-take, length-drop}
-use Rattle.shown.proofs.Stores.{copied}
+use mathlib.Core.Path.{refl}
+use Rattle.writing.proofs.Puts.{word_put}
 use Rattle.writing.proofs.put.put.Goals as goal
 
 pub returns : goal.returns
-returns c =
-    let a = c.args in
-    let e : c.copy.result ≡ length a.word.now = simp (length-take, length-drop) at c.copy.ensures.count ∙ omega arith in
-    copied a.room.now a.word.now _ _ (search rules) (rw e at c.copy.ensures.bytes)
+returns c = word_put c.args.room.now c.args.word.now c.args.at _ c.requires refl c.copy_from_slice.ensures.after

@@ -1,5 +1,0 @@
-use Rattle.walk.proofs.+walk.Given as goal
-
--- the number of steps left
-abbrev pub decreases-walk : goal.decreases-walk
-decreases-walk l = l.left
