@@ -37,9 +37,8 @@ fn main(rt: HostRuntime) {
     write_long(&rt);
     write_filling(&rt);
     let mut list = io::large_buffer();
-    if let Some(n) = files::load(&rt, b"list", &mut list) {
-        cases(&rt, &list[..n]);
-    }
+    let (Ok(n) | Err(n)) = files::load(&rt, b"list", &mut list);
+    cases(&rt, &list[..n]);
 }
 
 // A file that its owner may neither read nor write.
@@ -271,22 +270,19 @@ fn spaces(line: &[u8]) -> usize
 
 fn show<R: Disk>(rt: &R, name: &[u8]) {
     let mut text = io::large_buffer();
-    let Some(n) = files::load(rt, name, &mut text) else {
-        print(b"no file\n");
-        return;
-    };
-    print(&text[..n]);
+    match files::load(rt, name, &mut text) {
+        Ok(n) => print(&text[..n]),
+        Err(_) => print(b"no file\n"),
+    }
 }
 
 fn compare<R: Disk>(rt: &R, line: &[u8]) {
     let a = behind(line, 0);
     let mut one = io::large_buffer();
     let mut other = io::large_buffer();
-    let Some(n) = files::load(rt, word(line, 0), &mut one) else {
-        print(b"no file\n");
-        return;
-    };
-    let Some(m) = files::load(rt, word(line, a), &mut other) else {
+    let first = files::load(rt, word(line, 0), &mut one);
+    let second = files::load(rt, word(line, a), &mut other);
+    let (Ok(n), Ok(m)) = (first, second) else {
         print(b"no file\n");
         return;
     };

@@ -1,5 +1,5 @@
-// From the bytes of both files to what is said of them: refusal 2, the judgement, and the file for the written trace.
-ghost use Rattle.std.specs.Prelude.{◌≡◌, length};
+// From the bytes of both files to what is said of them: "cannot read", refusal 2, the judgement, and the file for the written trace.
+ghost use Rattle.std.specs.Prelude.{◌≡◌, length, option_copied};
 ghost use Rattle.files.specs.Told.{ByStored};
 ghost use Rattle.filed.specs.Filed.{on_latencies, on_files};
 ghost use Rattle.filed.specs.Judged.{JudgedInto};
@@ -45,21 +45,22 @@ fn concluded<R: Disk>(
     decided::ended(storing, answer, stored)
 }
 
-// "The table file is 16,384 bytes, four for each latency, low byte first, any other length being refusal 2."
+// "The table file is 16,384 bytes, four for each latency, low byte first, any other length being refusal 2." What is
+// decoded of a table that could not be read is not looked at.
 pub(crate) fn judged<R: Disk>(
     rt: &R,
     asked: Asked,
     wanted: bool,
-    trace: &[u8],
-    table: &[u8],
+    trace: Option<&[u8]>,
+    table: Option<&[u8]>,
     out: &[u8],
 ) -> Said
-    ensures { ByStored (on_files asked wanted (Some trace.now) (Some table.now)) result }
+    ensures { ByStored (on_files asked wanted (option_copied trace.entry) (option_copied table.entry)) result }
 {
     let mut latencies = files::no_latencies();
-    let fits = table::decode(table, &mut latencies);
-    match decided::ready(true, true, fits) {
+    let fits = table::decode(table.unwrap_or(&[]), &mut latencies);
+    match decided::ready(trace.is_some(), table.is_some(), fits) {
         Err(said) => said,
-        Ok(()) => concluded(rt, asked, wanted, trace, &latencies, out),
+        Ok(()) => concluded(rt, asked, wanted, trace.unwrap_or(&[]), &latencies, out),
     }
 }

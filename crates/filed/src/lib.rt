@@ -13,7 +13,8 @@ use paper::Asked;
 pub use print::say;
 use report::Said;
 
-// The files by their names: the table's is not waited for where the trace can't be read. Where the written trace is not wanted, the name `out` is not looked at.
+// The files by their names: the table's is not waited for where the trace can't be read. Where the written trace is not wanted, the name
+// `out` is not looked at.
 pub fn judge_files<R: Disk>(
     rt: &R,
     asked: Asked,
@@ -26,11 +27,14 @@ pub fn judge_files<R: Disk>(
 {
     let mut bytes = files::trace_buffer();
     let mut held = files::table_buffer();
-    let Some(n) = files::load(rt, trace, &mut bytes) else {
-        return Said::CannotRead;
-    };
-    let Some(m) = files::load(rt, table, &mut held) else {
-        return Said::CannotRead;
-    };
-    judged::judged(rt, asked, wanted, &bytes[..n], &held[..m], out)
+    let first = files::load(rt, trace, &mut bytes);
+    let second = files::load_behind(rt, first.is_ok(), table, &mut held);
+    judged::judged(
+        rt,
+        asked,
+        wanted,
+        files::held(first, &bytes),
+        files::held(second, &held),
+        out,
+    )
 }

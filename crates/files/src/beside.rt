@@ -29,8 +29,8 @@ pub enum Unstored {
 // A right that is missing, or a mount in the way, is no failure of the disk: the file may still be written over.
 impl From<Error> for Unstored {
     fn from(error: Error) -> Unstored {
-        match error.raw_os_error() {
-            Some(EACCES | EPERM | EBUSY) => Unstored::Forbidden,
+        match paths::number(error) {
+            EACCES | EPERM | EBUSY => Unstored::Forbidden,
             _ => Unstored::Failed,
         }
     }

@@ -53,7 +53,7 @@ fn reach_of(size: u64, length: usize) -> usize {
 // Nothing is to be put back before the whole of the head is marked, nor where a file is only emptied.
 fn exchange(name: &[u8], file: &mut File, text: &[u8], size: u64, reach: usize) -> Result<()> {
     let mut held = [0u8; 65537];
-    let n = load_open(file, &mut held).ok_or(Error::from(ErrorKind::Other))?;
+    let n = load_open(file, &mut held).map_err(|_| Error::from(ErrorKind::Other))?;
     if text.is_empty() {
         return file.set_len(0);
     }

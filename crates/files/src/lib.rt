@@ -12,6 +12,6 @@ mod system;
 mod write;
 
 pub use lent::{no_latencies, table_buffer, trace_buffer};
-pub use read::load;
+pub use read::{held, load, load_behind};
 pub use system::Disk;
 pub use write::{store, store_asked};

@@ -1,27 +1,56 @@
 // A whole file into a lent buffer.
-ghost use Rattle.std.specs.Prelude.{◌≤◌, length, IfSome};
+ghost use Rattle.std.specs.Prelude.{◌≡◌, ◌≤◌, length, MatchResult, option_copied};
 ghost use Rattle.io.specs.Counts.{IsPrefixLen};
+ghost use Rattle.files.specs.File.{held_in};
 
 use crate::system;
 use std::io::Read;
 use std::rt::Files;
 
-// The file of this name at the start of a buffer, how many of its bytes; one that is longer than the buffer fills it. None where it can't
-// be read.
-pub fn load<R: Files>(rt: &R, name: &[u8], buffer: &mut [u8]) -> Option<usize>
-    ensures { IfSome result (λ n. IsPrefixLen n buffer.new) }
+// The file of this name at the start of a buffer, how many of its bytes; one that is longer than the buffer fills it. Where it can't be read,
+// how many came before that.
+pub fn load<R: Files>(rt: &R, name: &[u8], buffer: &mut [u8]) -> Result<usize, usize>
+    ensures { MatchResult result (λ n. IsPrefixLen n buffer.new) (λ n. IsPrefixLen n buffer.new) }
 {
-    let mut file = system::open_read(rt, name).ok()?;
-    load_open(&mut file, buffer)
+    match system::open_read(rt, name) {
+        Ok(mut file) => load_open(&mut file, buffer),
+        Err(_) => Err(0),
+    }
+}
+
+// The file of this name, which is not waited for where the one before it can't be read.
+pub fn load_behind<R: Files>(
+    rt: &R,
+    read: bool,
+    name: &[u8],
+    buffer: &mut [u8],
+) -> Result<usize, usize>
+    ensures { MatchResult result (λ n. IsPrefixLen n buffer.new) (λ n. IsPrefixLen n buffer.new) }
+{
+    if read { load(rt, name, buffer) } else { Err(0) }
+}
+
+// What was read of a file into a buffer: its bytes, or none where it can't be read.
+pub fn held(read: Result<usize, usize>, buffer: &[u8]) -> Option<&[u8]>
+    ensures { option_copied result ≡ held_in read buffer.now }
+{
+    match read {
+        Ok(n) => Some(&buffer[..n.min(buffer.len())]),
+        Err(_) => None,
+    }
 }
 
 // A read that fails looks like the end of the file to `read_full`, so where the buffer is not full the end is asked for. A
 // directory opens, and fails here.
-pub(crate) fn load_open<F: Read>(file: &mut F, buffer: &mut [u8]) -> Option<usize>
-    ensures { IfSome result (λ n. IsPrefixLen n buffer.new) }
+pub(crate) fn load_open<F: Read>(file: &mut F, buffer: &mut [u8]) -> Result<usize, usize>
+    ensures { MatchResult result (λ n. IsPrefixLen n buffer.new) (λ n. IsPrefixLen n buffer.new) }
 {
     let n = read_full(file, buffer);
-    (n == buffer.len() || at_end(file)).then_some(n)
+    if n == buffer.len() || at_end(file) {
+        Ok(n)
+    } else {
+        Err(n)
+    }
 }
 
 // Reads until the buffer is full, the file ends or a read fails; how many bytes the buffer begins with then.

@@ -6,10 +6,12 @@ use crate::beside::Unstored;
 use crate::system::{Disk, Standing};
 use crate::{beside, in_place, system};
 use std::fs::File;
-use std::io::{Error, Write};
+use std::io::Write;
 
-// The system's number of the error where nothing has a name.
+// The system's numbers of errors.
 const ENOENT: i32 = 2;
+
+const EINVAL: i32 = 22;
 
 // The bits of a mode that say what kind of file it is, and those of a plain one.
 const KIND: u32 = 0o170000;
@@ -30,26 +32,19 @@ pub fn store_asked<R: Disk>(rt: &R, asked: bool, name: &[u8], text: &[u8]) -> bo
 fn put<R: Disk>(rt: &R, name: &[u8], text: &[u8]) -> Result<(), Unstored> {
     match system::open_append(rt, name) {
         Ok(file) => put_over(rt, name, file, text),
-        Err(error) => put_new(rt, name, error, text),
+        Err(error) => put_new(rt, name, paths::number(error), text),
     }
 }
 
 // Where nothing has the name, not even a link that leads nowhere.
-fn put_new<R: Disk>(rt: &R, name: &[u8], error: Error, text: &[u8]) -> Result<(), Unstored> {
-    if !is_missing(&error) || name.is_empty() {
-        return Err(Unstored::Failed);
-    }
-    if !matches!(paths::is_link(rt, name), Err(error) if is_missing(&error)) {
+fn put_new<R: Disk>(rt: &R, name: &[u8], error: i32, text: &[u8]) -> Result<(), Unstored> {
+    if error != ENOENT || name.is_empty() || paths::link_error(rt, name) != ENOENT {
         return Err(Unstored::Failed);
     }
     if !system::allows(rt, text.len()) {
         return Err(Unstored::Failed);
     }
     beside::create(rt, name, text)
-}
-
-fn is_missing(error: &Error) -> bool {
-    error.raw_os_error() == Some(ENOENT)
 }
 
 // A kind that the system does not tell is left alone.
@@ -74,7 +69,7 @@ fn put_file<R: Disk>(rt: &R, name: &[u8], old: Standing, text: &[u8]) -> Result<
 
 // A link would lose where it leads, and a file with a second name would part from it.
 fn replace<R: Disk>(rt: &R, name: &[u8], old: Standing, text: &[u8]) -> Result<(), Unstored> {
-    if old.links != 1 || !matches!(paths::is_link(rt, name), Ok(false)) {
+    if old.links != 1 || paths::link_error(rt, name) != EINVAL {
         return Err(Unstored::Forbidden);
     }
     beside::replace(rt, name, old, text)

@@ -1,7 +1,7 @@
 -- What is said, by the tests told and by what the arguments ask for.
-use Rattle.std.specs.Prelude.{Result, Some, None, Ok, Err}
+use Rattle.std.specs.Prelude.{Option, Result, Some, None, Ok, Err}
 use Prim.Native.Nat.{ℕ}
-use mathlib.Core.Path.{◌≡◌, refl, sym, ◌∙◌}
+use mathlib.Core.Path.{◌≡◌, sym, ◌∙◌}
 use mathlib.Core.Bool.{Bool, true}
 use mathlib.Core.List.{List}
 use Rattle.io.specs.Counts.{IsPrefixLen}
@@ -30,19 +30,20 @@ module _ (joint : Result Joined Unmerged) (merged : Merged) (told : merged ≡ m
 
 -- ---- the files
 
-module _ (choice : ℕ) where
-  pub first_unread : ByFiles (on_files choice) Replied.CannotRead
+module _ (choice : ℕ) (first second : Option (List ℕ)) where
+  pub first_unread : first ≡ None → ByStored (on_files choice first second) Replied.CannotRead
   unfolding on_files
-  first_unread = record { first = None; second = None; rest = record { stored = true; says = refl } }
+  first_unread e = record { stored = true; says = rw e }
 
-  module _ (first : List ℕ) where
-    pub second_unread : ByFiles (on_files choice) Replied.CannotRead
+  module _ {one : List ℕ} (has_first : first ≡ Some one) where
+    pub second_unread : second ≡ None → ByStored (on_files choice first second) Replied.CannotRead
     unfolding on_files
-    second_unread = record { first = Some first; second = None; rest = record { stored = true; says = refl } }
+    second_unread e = record { stored = true; says = rw (has_first, e) }
 
-    pub both_read : (second : List ℕ) {replied : Replied} → ByStored (on_traces choice first second) replied → ByFiles (on_files choice) replied
+    pub both_read : {other : List ℕ} {replied : Replied} → second ≡ Some other → ByStored (on_traces choice one other) replied
+        → ByStored (on_files choice first second) replied
     unfolding on_files
-    both_read second by = record { first = Some first; second = Some second; rest = record { stored = by.stored; says = by.says } }
+    both_read e by = record { stored = by.stored; says = by.says ∙ rw (has_first, e) }
 
 -- ---- the arguments
 

@@ -10,7 +10,6 @@ use Rattle.report.specs.declared.Replied.{Replied}
 use Rattle.decided.specs.Decided.{after_merging}
 use Rattle.paper.specs.declared.Unmerged.{Unmerged}
 use Rattle.paper.specs.declared.Joined.{Joined}
-use Rattle.paper.specs.declared.Refusal.{Refusal}
 use Rattle.arguments.specs.declared.Misuse.{Misuse}
 
 -- ---- the merging

@@ -86,11 +86,13 @@ fn merge_files<R: Disk>(rt: &R, choice: u32, first: &[u8], second: &[u8], out: &
 {
     let mut one = files::trace_buffer();
     let mut other = files::trace_buffer();
-    let Some(n) = files::load(rt, first, &mut one) else {
-        return Replied::CannotRead;
-    };
-    let Some(m) = files::load(rt, second, &mut other) else {
-        return Replied::CannotRead;
-    };
-    traces::of_both(rt, choice, &one[..n], &other[..m], out)
+    let a = files::load(rt, first, &mut one);
+    let b = files::load_behind(rt, a.is_ok(), second, &mut other);
+    traces::of_both(
+        rt,
+        choice,
+        files::held(a, &one),
+        files::held(b, &other),
+        out,
+    )
 }

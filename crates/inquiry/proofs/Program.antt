@@ -1,6 +1,7 @@
 -- What is said by the files and by the arguments.
-use Rattle.std.specs.Prelude.{Result, Some, None, Ok, Err}
+use Rattle.std.specs.Prelude.{Option, Result, Some, None, Ok, Err, is_some, unwrap_or, option_copied}
 use Prim.Native.Nat.{ℕ}
+use denote.Bor.{Bor}
 use mathlib.Core.Path.{◌≡◌, refl, sym, ◌∙◌}
 use mathlib.Core.Bool.{Bool, true, false}
 use mathlib.Core.List.{List}
@@ -24,51 +25,55 @@ use Rattle.showing.specs.declared.Shows.{Shows}
 
 -- ---- the files
 
-module _ (shows : Shows) (asked : Asked) (line trace : List ℕ) where
-  -- what is said of a table of another length
-  ends : (fits : Bool) (table : List ℕ) {said : Said} → fits ≡ eqb (length table) 16384 → ready_of true true fits ≡ Err said
-      → said_shown said ≡ on_files shows asked line (Some trace) (Some table)
+module _ (shows : Shows) (asked : Asked) (line : List ℕ) where
+  -- what is said without the trace, by all three tests
+  ends : (trace table : Option (Bor (List ℕ))) (other : Bor (List ℕ)) (fits : Bool) {said : Said} → fits ≡ eqb (length (unwrap_or table other).now) 16384
+      → ready_of (is_some trace) (is_some table) fits ≡ Err said
+      → said_shown said ≡ on_files shows asked line (option_copied trace) (option_copied table)
   unfolding ready_of on_files on_table
-  ends false table {said} t e = let q : said ≡ Answered (refusal Fault.WrongLength nowhere) = cc in rw (q, sym t)
-  ends true table t e = cc
+  ends None table other fits {said} t e = let q : said ≡ CannotRead = cc in rw q
+  ends (Some trace) None other fits {said} t e = let q : said ≡ CannotRead = cc in rw q
+  ends (Some trace) (Some table) other false {said} t e = let q : said ≡ Answered (refusal Fault.WrongLength nowhere) = cc in rw (q, sym t)
+  ends (Some trace) (Some table) other true t e = cc
 
-  -- and with the trace
-  goes_on_lem : (fits : Bool) (table : List ℕ) {latencies : List ℕ} → fits ≡ eqb (length table) 16384
-      → (fits ≡ true → latencies ≡ latencies_of table)
-      → ready_of true true fits ≡ Ok tt
-      → on_trace shows asked line trace latencies ≡ on_files shows asked line (Some trace) (Some table)
+  -- and with it
+  goes_on_lem : (trace table : Option (Bor (List ℕ))) (other another : Bor (List ℕ)) (fits : Bool) {latencies : List ℕ}
+      → fits ≡ eqb (length (unwrap_or table other).now) 16384
+      → (fits ≡ true → latencies ≡ latencies_of (unwrap_or table other).now)
+      → ready_of (is_some trace) (is_some table) fits ≡ Ok tt
+      → on_trace shows asked line (unwrap_or trace another).now latencies ≡ on_files shows asked line (option_copied trace) (option_copied table)
   unfolding ready_of on_files on_table
-  goes_on_lem false table t holds e = cc
-  goes_on_lem true table t holds e = rw (sym t, holds refl)
+  goes_on_lem None table other another fits t holds e = cc
+  goes_on_lem (Some trace) None other another fits t holds e = cc
+  goes_on_lem (Some trace) (Some table) other another false t holds e = cc
+  goes_on_lem (Some trace) (Some table) other another true t holds e = rw (sym t, holds refl)
 
-  module _ (table : List ℕ) {before latencies : List ℕ} {fits : Bool} (places : length before ≡ 4096) (decoded : Decoded table before fits latencies) where
-    test : fits ≡ eqb (length table) 16384
-    test = decoded.says ∙ rw places
+  module _ (trace table : Option (Bor (List ℕ))) (other : Bor (List ℕ)) {held : Bor (List ℕ)} (is : held ≡ unwrap_or table other)
+      {before latencies : List ℕ} {fits : Bool} (places : length before ≡ 4096) (decoded : Decoded held.now before fits latencies) where
+    test : fits ≡ eqb (length (unwrap_or table other).now) 16384
+    test = decoded.says ∙ rw (places, is)
 
-    holds : fits ≡ true → latencies ≡ latencies_of table
-    holds t = decoded.holds ∙ rw (sym decoded.says ∙ t)
+    holds : fits ≡ true → latencies ≡ latencies_of (unwrap_or table other).now
+    holds t = decoded.holds ∙ rw (sym decoded.says ∙ t, is)
 
-    module _ {ready : Result Unit Said} (tells : ready ≡ ready_of true true fits) {room after : List ℕ} {end : ℕ} where
-      pub not_judged : {said : Said} → ready ≡ Err said → Put room 0 (said_shown said) end after
-          → Put room 0 (on_files shows asked line (Some trace) (Some table)) end after
-      not_judged e p = rw (← ends fits table test (sym tells ∙ e)) p
+    module _ {read got : Bool} (has_trace : read ≡ is_some trace) (has_table : got ≡ is_some table) {ready : Result Unit Said}
+        (tells : ready ≡ ready_of read got fits) where
+      tested : ready_of (is_some trace) (is_some table) fits ≡ ready
+      tested = rw (← has_trace, ← has_table) (sym tells)
 
-      pub judged : ready ≡ Ok tt → Put room 0 (on_trace shows asked line trace latencies) end after
-          → Put room 0 (on_files shows asked line (Some trace) (Some table)) end after
-      judged e p = rw (← goes_on_lem fits table test holds (sym tells ∙ e)) p
+      module _ {room after : List ℕ} {end : ℕ} where
+        pub not_judged : {said : Said} → ready ≡ Err said → Put room 0 (said_shown said) end after
+            → Put room 0 (on_files shows asked line (option_copied trace) (option_copied table)) end after
+        not_judged e p = rw (← ends trace table other fits test (tested ∙ e)) p
 
-  module _ {room after : List ℕ} {end : ℕ} where
-    pub unread : Put room 0 (said_shown CannotRead) end after → TextInto (on_files shows asked line) room end after
-    unfolding on_files
-    unread p = record { trace = None; table = None; put = p; counts = counted p }
+        pub judged : ready ≡ Ok tt → (another : Bor (List ℕ)) {bytes : Bor (List ℕ)} → bytes ≡ unwrap_or trace another
+            → Put room 0 (on_trace shows asked line bytes.now latencies) end after
+            → Put room 0 (on_files shows asked line (option_copied trace) (option_copied table)) end after
+        judged e another b p = rw (← goes_on_lem trace table other another fits test holds (tested ∙ e), ← b) p
 
-    pub table_unread : Put room 0 (said_shown CannotRead) end after → TextInto (on_files shows asked line) room end after
-    unfolding on_files
-    table_unread p = record { trace = Some trace; table = None; put = p; counts = counted p }
-
-    pub by_files : (table : List ℕ) → Put room 0 (on_files shows asked line (Some trace) (Some table)) end after
-        → TextInto (on_files shows asked line) room end after
-    by_files table p = record { trace = Some trace; table = Some table; put = p; counts = counted p }
+  pub by_files : (trace table : Option (List ℕ)) {room after : List ℕ} {end : ℕ} → Put room 0 (on_files shows asked line trace table) end after
+      → TextInto (on_files shows asked line) room end after
+  by_files trace table p = record { trace = trace; table = table; put = p; counts = counted p }
 
 -- ---- the arguments
 

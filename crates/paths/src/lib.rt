@@ -1,7 +1,8 @@
 // Names: the text that one is, whether it is a link, the folder that it stands in, and a name beside it.
 #![tactic(auto)]
 
-ghost use Rattle.std.specs.Prelude.{◌≤◌, length, ◌≡◌, ◌↔◌, IfOk, IfSome, IsOk, IsUtf8};
+ghost use Rattle.std.specs.Prelude.{◌≤◌, length, ◌≡◌, ◌↔◌, IfOk, IfSome, IsOk, IsUtf8, MatchOption, negsuc};
+ghost use Rattle.std.specs.IoError.{raw_os_error};
 ghost use Rattle.io.specs.Counts.{IsPrefixLen};
 
 use std::fs;
@@ -16,7 +17,9 @@ const LAST: usize = 4095;
 // which nothing stands.
 const BESIDE: &[u8; 27] = b"cantuvesh.unfinished.XXXXXX";
 
-// The system's number of the error for a name that is no text.
+// The system's numbers of errors: where a name is no link, and where it is no text.
+const EINVAL: i32 = 22;
+
 const EILSEQ: i32 = 84;
 
 // A name as the system is given it, which is text.
@@ -27,8 +30,24 @@ pub fn text(name: &[u8]) -> Result<&str>
     from_utf8(name).map_err(|_| Error::from_raw_os_error(EILSEQ))
 }
 
-// Whether the name is a symbolic link, wherever that leads; an error where nothing stands there.
-pub fn is_link<R: Files>(rt: &R, name: &[u8]) -> Result<bool> {
+// The system's number of an error, or -1 where it gave none.
+pub fn number(error: Error) -> i32
+    ensures { MatchOption (raw_os_error error) (result ≡ negsuc 0) (λ code. result ≡ code) }
+{
+    error.raw_os_error().unwrap_or(-1)
+}
+
+// 0 where the name is a symbolic link, wherever that leads, and otherwise the error that says why not: EINVAL where something else
+// stands there, ENOENT where nothing does.
+pub fn link_error<R: Files>(rt: &R, name: &[u8]) -> i32 {
+    match is_link(rt, name) {
+        Ok(true) => 0,
+        Ok(false) => EINVAL,
+        Err(error) => number(error),
+    }
+}
+
+fn is_link<R: Files>(rt: &R, name: &[u8]) -> Result<bool> {
     Ok(fs::symlink_metadata(rt, text(name)?)?.is_symlink())
 }
 

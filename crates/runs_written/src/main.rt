@@ -6,7 +6,6 @@ const STDOUT: i32 = 1;
 fn main(rt: HostRuntime) {
     shell::run(&rt);
     let mut text = io::large_buffer();
-    if let Some(n) = files::load(&rt, b"out", &mut text) {
-        io::write_all(STDOUT, &text[..n]);
-    }
+    let (Ok(n) | Err(n)) = files::load(&rt, b"out", &mut text);
+    io::write_all(STDOUT, &text[..n]);
 }

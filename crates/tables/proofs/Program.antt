@@ -27,22 +27,19 @@ pub is_unmade : (text : List ℕ) {made : Made} {unmade : Unmade} {told : Told} 
 unfolding on_made
 is_unmade text m e t = record { stored = true; says = t ∙ rw (← m, e) }
 
-module _ (text : List ℕ) where
-  pub too_long : 262144 < length text → ByStored (on_text text) Told.TooLong
-  unfolding on_text
-  too_long h = record { stored = true; says = rw (lt-ltb 262144 (length text) h) }
+module _ {text : Option (List ℕ)} where
+  pub not_read : text ≡ None → ByStored (on_file text) Told.CannotRead
+  unfolding on_file
+  not_read e = record { stored = true; says = rw e }
 
-  pub short : {told : Told} → length text ≤ 262144 → ByStored (on_made (made_of text)) told → ByStored (on_text text) told
-  unfolding on_text
-  short h by = record { stored = by.stored; says = by.says ∙ rw (le-ltb 262144 (length text) h) }
+  module _ (bytes : List ℕ) (read : text ≡ Some bytes) where
+    pub too_long : 262144 < length bytes → ByStored (on_file text) Told.TooLong
+    unfolding on_file on_text
+    too_long h = record { stored = true; says = rw (read, lt-ltb 262144 (length bytes) h) }
 
-pub not_read : ByFile on_file Told.CannotRead
-unfolding on_file
-not_read = record { text = None; rest = record { stored = true; says = refl } }
-
-pub reads : (text : List ℕ) {told : Told} → ByStored (on_text text) told → ByFile on_file told
-unfolding on_file
-reads text by = record { text = Some text; rest = by }
+    pub reads : {told : Told} → length bytes ≤ 262144 → ByStored (on_made (made_of bytes)) told → ByStored (on_file text) told
+    unfolding on_file on_text
+    reads h by = record { stored = by.stored; says = by.says ∙ rw (read, le-ltb 262144 (length bytes) h) }
 
 -- ---- the program
 

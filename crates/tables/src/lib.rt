@@ -51,8 +51,6 @@ fn read_text<R: Disk>(rt: &R, text: &[u8], table: &[u8]) -> Told
     ensures { ByFile on_file result }
 {
     let mut bytes = text_buffer();
-    let Some(n) = files::load(rt, text, &mut bytes) else {
-        return Told::CannotRead;
-    };
-    made::of_text(rt, &bytes[..n], table)
+    let read = files::load(rt, text, &mut bytes);
+    made::of_text(rt, files::held(read, &bytes), table)
 }

@@ -1,8 +1,8 @@
-// From the text's bytes to what is said of them: too long, no table made, or the table and its file.
-ghost use Rattle.std.specs.Prelude.{◌≡◌, length, Ok, Err};
+// From the text's bytes to what is said of them: "cannot read", too long, no table made, or the table and its file.
+ghost use Rattle.std.specs.Prelude.{◌≡◌, length, option_copied, Ok, Err};
 ghost use Rattle.text.specs.Text.{made_of};
 ghost use Rattle.files.specs.Told.{ByStored};
-ghost use Rattle.tables.specs.Program.{unmade_told, on_made, on_text};
+ghost use Rattle.tables.specs.Program.{unmade_told, on_made, on_file};
 
 use files::Disk;
 use report::Told;
@@ -50,9 +50,12 @@ fn concluded<R: Disk>(rt: &R, text: &[u8], table: &[u8]) -> Told
     }
 }
 
-pub(crate) fn of_text<R: Disk>(rt: &R, text: &[u8], table: &[u8]) -> Told
-    ensures { ByStored (on_text text.now) result }
+pub(crate) fn of_text<R: Disk>(rt: &R, text: Option<&[u8]>, table: &[u8]) -> Told
+    ensures { ByStored (on_file (option_copied text.entry)) result }
 {
+    let Some(text) = text else {
+        return Told::CannotRead;
+    };
     if LONGEST < text.len() {
         return Told::TooLong;
     }

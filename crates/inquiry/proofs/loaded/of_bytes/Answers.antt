@@ -3,10 +3,10 @@ use Rattle.inquiry.proofs.loaded.of_bytes.Goals as goal
 
 pub returns-in-Err : goal.returns-in-Err
 returns-in-Err c =
-    not_judged _ _ _ _ _ c.no_latencies-latencies.ensures c.decode-fits.ensures c.ready.ensures
-    c.in-Err.is c.say.ensures
+    not_judged _ _ _ _ _ _ c.unwrap_or.ensures c.no_latencies-latencies.ensures c.decode-fits.ensures c.is_some.ensures c.is_some-2.ensures
+    c.ready.ensures c.in-Err.is c.say.ensures
 
 pub returns-in-Ok : goal.returns-in-Ok
 returns-in-Ok c =
-    judged _ _ _ _ _ c.no_latencies-latencies.ensures c.decode-fits.ensures c.ready.ensures
-    c.in-Ok.is c.show.ensures
+    judged _ _ _ _ _ _ c.unwrap_or.ensures c.no_latencies-latencies.ensures c.decode-fits.ensures c.is_some.ensures c.is_some-2.ensures
+    c.ready.ensures c.in-Ok.is _ c.unwrap_or-in-Ok.ensures c.show.ensures
