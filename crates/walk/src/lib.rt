@@ -46,10 +46,11 @@ impl Steps<'_> {
         steps::onward(processor, send, rank, left)
     }
 
-    // The record and the walk from it, with so many steps left, into the list from a place on.
-    fn walk(self, i: u32, left: usize, at: usize, list: &mut [u64])
+    // The record and the walk from it, with so many steps left, into the list from a place on. By a reference: handed on as they are, the
+    // three slices would lie on the stack anew for each record of the chain.
+    fn walk(&self, i: u32, left: usize, at: usize, list: &mut [u64])
         requires { at + left < length list.old }
-        ensures { list.new ≡ take at list.old ++ (way self.entry.first.now self.entry.second.now self.entry.ranks.now left i ++ drop (at + left + 1) list.old) }
+        ensures { list.new ≡ take at list.old ++ (way self.now.first.now self.now.second.now self.now.ranks.now left i ++ drop (at + left + 1) list.old) }
     {
         list[at] = u64::from(i);
         if left == 0 {
