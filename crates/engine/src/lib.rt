@@ -85,13 +85,14 @@ fn next_at(waits: Waits, from: &[i64], i: usize) -> i64
     after(from, waits.send[i], u64::from(waits.latency[i]), own)
 }
 
-// Into `to` the round after `from`. No time of `from` is above the limit, so that only one that moved is held to it.
+// Into `to` the round after `from`. No time of `from` is above the limit, so that only one that moved is held to it. Those that moved are
+// counted: of a flag that falls once the compiler makes two loops.
 fn round(waits: Waits, from: &[i64], to: &mut [i64]) -> Turn
     requires low { Low from.now }
     requires sized { Sized waits.before.now waits.gap.now waits.send.now waits.latency.now from.now to.old }
     ensures { Turned (following waits.entry.before.now waits.entry.gap.now waits.entry.send.now waits.entry.latency.now) from.now result to.new }
 {
-    let mut moved = false;
+    let mut moved: usize = 0;
     for i in 0..from.len() {
         let time = next_at(waits, from, i);
         to[i] = time;
@@ -99,10 +100,10 @@ fn round(waits: Waits, from: &[i64], to: &mut [i64]) -> Turn
             if time > LIMIT {
                 return Turn::Over;
             }
-            moved = true;
+            moved += 1;
         }
     }
-    if moved { Turn::Moved } else { Turn::Same }
+    if moved == 0 { Turn::Same } else { Turn::Moved }
 }
 
 // Whether no time is above the limit.
