@@ -47,7 +47,10 @@ pub fn link_error<R: Files>(rt: &R, name: &[u8]) -> i32 {
     }
 }
 
-fn is_link<R: Files>(rt: &R, name: &[u8]) -> Result<bool> {
+// Whether the name is a symbolic link, wherever that leads; an error where nothing stands there, or where the name is no text.
+pub fn is_link<R: Files>(rt: &R, name: &[u8]) -> Result<bool>
+    ensures { IsOk result → IsUtf8 name.now }
+{
     Ok(fs::symlink_metadata(rt, text(name)?)?.is_symlink())
 }
 
@@ -72,4 +75,41 @@ pub fn beside(name: &[u8], buffer: &mut [u8]) -> Option<usize>
     buffer[..start].copy_from_slice(&name[..start]);
     buffer[start..end].copy_from_slice(BESIDE);
     Some(end)
+}
+
+#[cfg(test)]
+mod tests {
+    use super::{is_link, number};
+    use std::fs;
+    use std::os::unix::fs::symlink;
+    use std::test::Fail;
+
+    const FOLDER: &str = "paths_is_link_test";
+
+    fn told(rt: &HostRuntime, name: &[u8]) -> Result<bool, i32> {
+        is_link(rt, name).map_err(number)
+    }
+
+    // A link to a folder, and one to nothing; the folder, by its name and by the link's, and a file in it. Then names under which nothing
+    // stands, and two that the system is not asked about: one that is no text, and one with a 0 in it, for which there is no number.
+    #[test]
+    fn tells_a_link(rt: HostRuntime) -> Result<(), Fail> {
+        let _ = fs::remove_dir_all(&rt, FOLDER);
+        fs::create_dir(&rt, FOLDER)?;
+        fs::write(&rt, "paths_is_link_test/file", b"".as_slice())?;
+        symlink(&rt, ".", "paths_is_link_test/link")?;
+        symlink(&rt, "none", "paths_is_link_test/nowhere")?;
+        assert_eq!(rt; told(&rt, b"paths_is_link_test/link"), Ok(true));
+        assert_eq!(rt; told(&rt, b"paths_is_link_test/nowhere"), Ok(true));
+        assert_eq!(rt; told(&rt, b"paths_is_link_test"), Ok(false));
+        assert_eq!(rt; told(&rt, b"paths_is_link_test/link/"), Ok(false));
+        assert_eq!(rt; told(&rt, b"paths_is_link_test/link/file"), Ok(false));
+        assert_eq!(rt; told(&rt, b"paths_is_link_test/none"), Err(2));
+        assert_eq!(rt; told(&rt, b"paths_is_link_test/file/none"), Err(20));
+        assert_eq!(rt; told(&rt, b""), Err(2));
+        assert_eq!(rt; told(&rt, b"paths_is_link_test\xff"), Err(84));
+        assert_eq!(rt; told(&rt, b"paths_is_link_test\0"), Err(-1));
+        fs::remove_dir_all(&rt, FOLDER)?;
+        Ok(())
+    }
 }
